@@ -1,0 +1,9 @@
+// A change as a value.
+
+// One change of one line. Which kinds there are, and what the amount counts, is the line's own affair.
+#[derive(Clone, Copy, PartialEq, Eq, Debug)]
+pub struct Change {
+    pub line: u16,
+    pub kind: u8,
+    pub amount: u32,
+}

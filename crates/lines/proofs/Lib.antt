@@ -1,8 +1,5 @@
+pub mod Fronts
 pub mod LittleEndian
-pub mod Payloads
-mod AccountBytes
-mod Rules
-mod AccountSums
-mod StockBytes
 pub mod Making
-mod Fronts
+pub mod Payloads
+pub mod Rules

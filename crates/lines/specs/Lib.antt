@@ -1,8 +1,5 @@
 pub mod Bytes
-pub mod Coding
 pub mod Changing
+pub mod Coding
 pub mod Faults
-pub mod Accounts
-pub mod Stocks
 pub mod Numbered
-pub mod Cases

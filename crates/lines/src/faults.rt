@@ -3,7 +3,7 @@ ghost use mathlib.Core.Path.{_≡_};
 ghost use Rattle.lines.specs.Faults.{refusal};
 
 // Which part of the engine turned a call away.
-#[derive(Clone, Copy, PartialEq, Eq, Debug)]
+#[derive(Clone, Copy)]
 pub enum Layer {
     Book,
     Keeper,
@@ -13,7 +13,7 @@ pub enum Layer {
 }
 
 // A refusal as a support desk hears it. What `place` counts (a seat, a line, an offset) goes with the number.
-#[derive(Clone, Copy, PartialEq, Eq, Debug)]
+#[derive(Clone, Copy)]
 pub struct Refusal {
     pub number: u8,
     pub layer: Layer,
@@ -21,7 +21,7 @@ pub struct Refusal {
 }
 
 // Why a change is refused; each holds the number of the line that the change names.
-#[derive(Clone, Copy, PartialEq, Eq, Debug)]
+#[derive(Clone, Copy, PartialEq, Eq)]
 pub enum LineFault {
     // There is no line of that number.
     NoSuchLine(u16),

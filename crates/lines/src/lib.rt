@@ -1,9 +1,6 @@
 // What a line is: a value with a rule that it keeps, changes that are accepted or refused, and a payload with one reading.
-pub mod accounts;
-pub mod cases;
 pub mod changes;
 pub mod faults;
-pub mod kinds;
 pub mod numbered;
 pub mod numbers;
-pub mod stocks;
+pub mod traits;

@@ -3,8 +3,8 @@ ghost use mathlib.Core.Path.{_≡_};
 ghost use Rattle.lines.specs.Numbered.{front, make, standing, verdict, after, verdicts};
 use crate::changes::Change;
 use crate::faults::LineFault;
-use crate::kinds::Coded;
-use crate::kinds::Line;
+use crate::traits::Coded;
+use crate::traits::Line;
 
 // How many lines stand before the first that breaks its rule.
 pub fn lawful_front<L: Coded>(lines: &[L]) -> usize

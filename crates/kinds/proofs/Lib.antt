@@ -1,0 +1,3 @@
+mod AccountBytes
+mod AccountSums
+mod StockBytes

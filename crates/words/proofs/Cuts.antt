@@ -1,12 +1,23 @@
 -- A cut found byte by byte.
 use mathlib.Core.Path.{_≡_, refl, sym, ap, _∙_}
 use mathlib.Core.List.{List, [], _∷_, _++_}
+use mathlib.Core.Logic.{inl, inr}
 use Prim.Native.Nat.{ℕ, _+_, _<_, _≤_}
 use native.Mathlib.Omega.{arith}
+use lib.Dec.{eqb}
 use lib.ListN.{length, getD, take, drop}
 use Rattle.std.proofs.shelf.Lists.{at-drop-more, at-drop-all, take-all, take-more, drop-all, append-assoc, append-nil}
-use Rattle.std.proofs.shelf.Tests.{eq-eqb, ne-eqb}
+use Rattle.std.proofs.shelf.Tests.{cases-bool, eq-eqb, ne-eqb}
 use Rattle.words.specs.Pieces.{before, beyond}
+
+-- a cut takes a byte away, if there is one
+beyond-least : (mark : ℕ) (bs : List ℕ) → length (beyond mark bs) ≤ length bs
+beyond-least mark [] = omega arith
+beyond-least mark (b ∷ bs) = elim (cases-bool (eqb b mark)) [ inl t ↦ rw t (omega arith) | inr f ↦ rw f (omega (arith, beyond-least mark bs)) ]
+
+pub beyond-shorter : (mark : ℕ) (bs : List ℕ) → 0 < length bs → length (beyond mark bs) < length bs
+beyond-shorter mark [] h = h
+beyond-shorter mark (b ∷ bs) h = elim (cases-bool (eqb b mark)) [ inl t ↦ rw t (omega arith) | inr f ↦ rw f (omega (arith, beyond-least mark bs)) ]
 
 module _ (mark : ℕ) (bs : List ℕ) (i : ℕ) where
   -- no byte so far is the mark
@@ -35,6 +46,7 @@ module _ (mark : ℕ) (bs : List ℕ) (i : ℕ) (so-far : Uncut mark bs i) where
   pub cut-nowhere : length bs ≤ i → (take (length bs) bs ≡ before mark bs) × (drop (length bs) bs ≡ beyond mark bs)
   cut-nowhere past =
       let front : before mark (drop i bs) ≡ [] = at-drop-all (before mark) bs i past in
-      let back : beyond mark (drop i bs) ≡ [] = at-drop-all (beyond mark) bs i past in
-      (take-all (length bs) bs (omega arith) ∙ sym (so-far .front ∙ rw (front, take-all i bs past) (append-nil bs)),
-       drop-all (length bs) bs (omega arith) ∙ sym (so-far .back ∙ back))
+      let back : beyond mark (drop i bs) ≡ [] = at-drop-all (beyond mark) bs i past in (
+        take-all (length bs) bs (omega arith) ∙ sym (so-far .front ∙ rw (front, take-all i bs past) (append-nil bs)),
+        drop-all (length bs) bs (omega arith) ∙ sym (so-far .back ∙ back),
+      )

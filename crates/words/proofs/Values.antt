@@ -28,23 +28,23 @@ decimal-is (c ∷ cs) h = refl
 module _ (n c : ℕ) (cs : List ℕ) where
   next-some : (m : ℕ) → Some m ≡ longer n c → behind n (c ∷ cs) ≡ behind m cs
   next-some m h = elim (cases-bool (digit c && ltb (n * 10 + (c - 48)) (2 ^ 64))) [
-      inl t ↦
+    | inl t ↦
         let e : Some m ≡ Some (n * 10 + (c - 48)) = rw t at h in
         let same : m ≡ n * 10 + (c - 48) = cc in
         rw (and-parts (digit c) (ltb (n * 10 + (c - 48)) (2 ^ 64)) t .0, same)
     | inr f ↦ let e : Some m ≡ None = rw f at h in let z : _≡_ {A = ℕ} 0 1 = cc in absurd (omega arith)
-    ]
+  ]
 
   next-none : None ≡ longer n c → behind n (c ∷ cs) ≡ None
   next-none h = elim (cases-bool (digit c)) [
-      inr f ↦ rw f
+    | inr f ↦ rw f
     | inl t ↦ elim (cases-lt (n * 10 + (c - 48)) (2 ^ 64)) [
-        inl low ↦
+      | inl low ↦
           let e : None ≡ Some (n * 10 + (c - 48)) = rw (t, lt-ltb (n * 10 + (c - 48)) (2 ^ 64) low) at h in
           let z : _≡_ {A = ℕ} 0 1 = cc in absurd (omega arith)
       | inr high ↦ rw t (behind-over (n * 10 + (c - 48)) cs high)
-      ]
     ]
+  ]
 
 -- the same at the place i of a word
 module _ (cs : List ℕ) (n i : ℕ) (inside : i < length cs) where

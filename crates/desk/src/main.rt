@@ -1,0 +1,340 @@
+// Plays a script of lines and changes: prints what each change answered, and the lines at the end.
+mod played;
+mod script;
+
+use kinds::accounts::Account;
+use kinds::accounts::AccountCoded;
+use kinds::accounts::AccountLine;
+use kinds::stocks::StockLine;
+use kinds::stocks::StockLineCoded;
+use kinds::stocks::StockLineLine;
+use lines::changes::Change;
+use lines::faults::Layer;
+use lines::faults::LineFault;
+use lines::faults::Refusal;
+use lines::numbered::change_line;
+use lines::numbered::lawful_front;
+use played::AccountPlayed;
+use played::Played;
+use played::StockLinePlayed;
+use script::Entry;
+use script::Kind;
+use script::Step;
+use std::alloc::AllocError;
+use std::alloc::Global;
+use std::env;
+use std::error::AnyError;
+use std::fs;
+use std::io::Read;
+use std::str::from_utf8;
+use words::decimal::number;
+use words::decimal::signed_number;
+use words::pieces::cut_at;
+
+fn main(rt: LibcRuntime) -> Result<(), AnyError> {
+    match run(&rt) {
+        Ok(()) => Ok(()),
+        Err(error) => {
+            eprintln!(rt, "{error}")?;
+            Err(error)
+        }
+    }
+}
+
+fn run(rt: &LibcRuntime) -> Result<(), AnyError> {
+    let text = script_text(rt)?;
+    let entries = read_script(rt.alloc(), text.as_slice())?;
+    play_script(rt, entries.as_slice())
+}
+
+// The file that the one argument names, or standard input where there is none.
+fn script_text(rt: &LibcRuntime) -> Result<Vec<u8>, AnyError> {
+    let mut args = env::args(rt)?;
+    let _program = args.next();
+    let Some(path) = args.next() else {
+        let mut text = Vec::new(rt.alloc());
+        rt.stdin().read_to_end(&mut text)?;
+        return Ok(text);
+    };
+    if args.next().is_some() {
+        return Err("desk takes one script".into());
+    }
+    Ok(fs::read(rt, path.as_str())?)
+}
+
+// Where in a script a line stands: before any heading, among opening lines, or among changes.
+#[derive(Clone, Copy)]
+enum Under {
+    Nothing,
+    Opening(Kind),
+    Changes(Kind),
+}
+
+impl Under {
+    fn then(self, step: Step) -> Under {
+        match (self, step) {
+            (_, Step::Lines(kind)) => Under::Opening(kind),
+            (Under::Opening(kind), Step::Change(_)) => Under::Changes(kind),
+            _ => self,
+        }
+    }
+}
+
+// All of a script, or the first line of it that cannot be read.
+fn read_script(heap: Global, text: &[u8]) -> Result<Vec<Entry>, AnyError> {
+    let mut entries = Vec::new(heap);
+    let mut under = Under::Nothing;
+    let mut rest = text;
+    let mut at = 0u64;
+    while !rest.is_empty() {
+        let (line, behind) = cut_at(rest, b'\n');
+        rest = behind;
+        at = at.saturating_add(1);
+        if is_passed_over(line) {
+            continue;
+        }
+        let words = words_of(heap, line)?;
+        match read_step(words.as_slice(), under) {
+            Ok(step) => {
+                under = under.then(step);
+                entries.push(Entry {
+                    step,
+                    echo: joined(heap, words.as_slice())?,
+                })?;
+            }
+            Err(what) => return Err(format!(heap, "line {at}: {what}")?.into()),
+        }
+    }
+    if entries.is_empty() {
+        at = at.saturating_add(1);
+        return Err(format!(heap, "line {at}: no heading")?.into());
+    }
+    Ok(entries)
+}
+
+// Whether a line has no word, or its first begins with `#`.
+fn is_passed_over(line: &[u8]) -> bool {
+    for b in line {
+        if *b != b' ' {
+            return *b == b'#';
+        }
+    }
+    true
+}
+
+fn words_of<'a>(heap: Global, line: &'a [u8]) -> Result<Vec<&'a [u8]>, AllocError> {
+    let mut words = Vec::new(heap);
+    let mut rest = line;
+    while !rest.is_empty() {
+        let (word, behind) = cut_at(rest, b' ');
+        if !word.is_empty() {
+            words.push(word)?;
+        }
+        rest = behind;
+    }
+    Ok(words)
+}
+
+fn joined(heap: Global, words: &[&[u8]]) -> Result<String, AnyError> {
+    let mut text = String::new(heap);
+    for word in words {
+        if !text.is_empty() {
+            text.push(' ')?;
+        }
+        text.push_str(from_utf8(word)?)?;
+    }
+    Ok(text)
+}
+
+fn read_step(words: &[&[u8]], under: Under) -> Result<Step, &'static str> {
+    let first = match words.first() {
+        Some(word) => from_utf8(word).unwrap_or(""),
+        None => "",
+    };
+    match (first, under) {
+        ("lines", _) => read_heading(words),
+        ("line", Under::Opening(Kind::Account)) => read_account(words),
+        ("line", Under::Opening(Kind::Stock)) => read_stock(words),
+        ("line", Under::Changes(_)) => Err("a line after a change"),
+        ("change", Under::Opening(_) | Under::Changes(_)) => read_change(words),
+        ("line" | "change", Under::Nothing) => Err("no heading"),
+        _ => Err("unknown word"),
+    }
+}
+
+const NOT_A_NUMBER: &str = "not a number that fits";
+
+fn read_heading(words: &[&[u8]]) -> Result<Step, &'static str> {
+    let [_, kind] = words else {
+        return Err("`lines` takes a kind");
+    };
+    match from_utf8(kind).unwrap_or("") {
+        "account" => Ok(Step::Lines(Kind::Account)),
+        "stock" => Ok(Step::Lines(Kind::Stock)),
+        _ => Err("unknown kind"),
+    }
+}
+
+fn read_account(words: &[&[u8]]) -> Result<Step, &'static str> {
+    let [_, balance, limit] = words else {
+        return Err("`line` takes two numbers");
+    };
+    let Some(balance) = signed_number(balance) else {
+        return Err(NOT_A_NUMBER);
+    };
+    let limit = u32_of(limit)?;
+    Ok(Step::OpeningAccount(Account { balance, limit }))
+}
+
+fn read_stock(words: &[&[u8]]) -> Result<Step, &'static str> {
+    let [_, on_hand, reserved] = words else {
+        return Err("`line` takes two numbers");
+    };
+    let on_hand = u32_of(on_hand)?;
+    let reserved = u32_of(reserved)?;
+    Ok(Step::OpeningStock(StockLine { on_hand, reserved }))
+}
+
+fn read_change(words: &[&[u8]]) -> Result<Step, &'static str> {
+    let [_, line, kind, amount] = words else {
+        return Err("`change` takes three numbers");
+    };
+    let line = u16_of(line)?;
+    let kind = u8_of(kind)?;
+    let amount = u32_of(amount)?;
+    Ok(Step::Change(Change { line, kind, amount }))
+}
+
+fn u8_of(word: &[u8]) -> Result<u8, &'static str> {
+    match number(word) {
+        Some(n) => u8::try_from(n).ok().ok_or(NOT_A_NUMBER),
+        None => Err(NOT_A_NUMBER),
+    }
+}
+
+fn u16_of(word: &[u8]) -> Result<u16, &'static str> {
+    match number(word) {
+        Some(n) => u16::try_from(n).ok().ok_or(NOT_A_NUMBER),
+        None => Err(NOT_A_NUMBER),
+    }
+}
+
+fn u32_of(word: &[u8]) -> Result<u32, &'static str> {
+    match number(word) {
+        Some(n) => u32::try_from(n).ok().ok_or(NOT_A_NUMBER),
+        None => Err(NOT_A_NUMBER),
+    }
+}
+
+// How many changes were played, and how many of them were refused.
+#[derive(Clone, Copy)]
+struct Tally {
+    changes: u64,
+    refused: u64,
+}
+
+fn play_script(rt: &LibcRuntime, entries: &[Entry]) -> Result<(), AnyError> {
+    let mut tally = Tally {
+        changes: 0,
+        refused: 0,
+    };
+    for (i, entry) in entries.iter().enumerate() {
+        if let Step::Lines(kind) = entry.step {
+            let group = group_of(&entries[i + 1..]);
+            match kind {
+                Kind::Account => play_lines::<AccountPlayed>(rt, entry, group, &mut tally)?,
+                Kind::Stock => play_lines::<StockLinePlayed>(rt, entry, group, &mut tally)?,
+            }
+        }
+    }
+    let Tally { changes, refused } = tally;
+    let accepted = changes.saturating_sub(refused);
+    println!(
+        rt,
+        "{changes} changes, {accepted} accepted, {refused} refused"
+    )?;
+    Ok(())
+}
+
+// The entries up to the next heading.
+fn group_of(entries: &[Entry]) -> &[Entry] {
+    for (i, entry) in entries.iter().enumerate() {
+        if let Step::Lines(_) = entry.step {
+            return &entries[0..i];
+        }
+    }
+    entries
+}
+
+fn play_lines<L: Played>(
+    rt: &LibcRuntime,
+    heading: &Entry,
+    group: &[Entry],
+    tally: &mut Tally,
+) -> Result<(), AnyError> {
+    let mut lines = Vec::new(rt.alloc());
+    for entry in group {
+        if let Some(line) = L::opening(entry.step) {
+            lines.push(line)?;
+        }
+    }
+    lines.truncate(lawful_front(lines.as_slice()));
+    let count = lines.len();
+    println!(rt, "{}: {count} lines", heading.echo)?;
+    for entry in group {
+        if let Step::Change(change) = entry.step {
+            print_answer(rt, entry, change_line(lines.as_mut_slice(), change), tally)?;
+        }
+    }
+    for (i, line) in lines.iter().enumerate() {
+        print_line(rt, i, line)?;
+    }
+    Ok(())
+}
+
+fn print_answer(
+    rt: &LibcRuntime,
+    entry: &Entry,
+    answer: Result<(), LineFault>,
+    tally: &mut Tally,
+) -> Result<(), AnyError> {
+    tally.changes = tally.changes.saturating_add(1);
+    match answer {
+        Ok(()) => println!(rt, "{}: ok", entry.echo)?,
+        Err(fault) => {
+            tally.refused = tally.refused.saturating_add(1);
+            let Refusal {
+                number,
+                layer,
+                place,
+            } = fault.refusal();
+            let layer = layer_name(layer);
+            println!(rt, "{}: refused {number} {layer} {place}", entry.echo)?;
+        }
+    }
+    Ok(())
+}
+
+fn layer_name(layer: Layer) -> &'static str {
+    match layer {
+        Layer::Book => "book",
+        Layer::Keeper => "keeper",
+        Layer::Line => "line",
+        Layer::Image => "image",
+        Layer::Log => "log",
+    }
+}
+
+// A line's number, its two numbers and its payload.
+fn print_line<L: Played>(rt: &LibcRuntime, number: usize, line: &L) -> Result<(), AnyError> {
+    let (first, second) = line.numbers();
+    print!(rt, "  {number} {first} {second} ")?;
+    let mut payload = [0u8; 26];
+    if let Some(width) = line.write_payload(&mut payload) {
+        for b in payload.iter().take(width) {
+            print!(rt, "{b:02x}")?;
+        }
+    }
+    println!(rt, "")?;
+    Ok(())
+}

@@ -182,7 +182,7 @@ fn read_account(words: &[&[u8]]) -> Result<Step, &'static str> {
     let Some(balance) = signed_number(balance) else {
         return Err(NOT_A_NUMBER);
     };
-    let limit = u32_of(limit)?;
+    let limit = number_of(limit)?;
     Ok(Step::OpeningAccount(Account { balance, limit }))
 }
 
@@ -190,8 +190,8 @@ fn read_stock(words: &[&[u8]]) -> Result<Step, &'static str> {
     let [_, on_hand, reserved] = words else {
         return Err("`line` takes two numbers");
     };
-    let on_hand = u32_of(on_hand)?;
-    let reserved = u32_of(reserved)?;
+    let on_hand = number_of(on_hand)?;
+    let reserved = number_of(reserved)?;
     Ok(Step::OpeningStock(StockLine { on_hand, reserved }))
 }
 
@@ -199,29 +199,19 @@ fn read_change(words: &[&[u8]]) -> Result<Step, &'static str> {
     let [_, line, kind, amount] = words else {
         return Err("`change` takes three numbers");
     };
-    let line = u16_of(line)?;
-    let kind = u8_of(kind)?;
-    let amount = u32_of(amount)?;
+    let line = number_of(line)?;
+    let kind = number_of(kind)?;
+    let amount = number_of(amount)?;
     Ok(Step::Change(Change { line, kind, amount }))
 }
 
-fn u8_of(word: &[u8]) -> Result<u8, &'static str> {
+// The number that a word writes, if it fits T.
+fn number_of<T: TryFrom<u64> + Drop>(word: &[u8]) -> Result<T, &'static str>
+where
+    T::Error: Drop,
+{
     match number(word) {
-        Some(n) => u8::try_from(n).ok().ok_or(NOT_A_NUMBER),
-        None => Err(NOT_A_NUMBER),
-    }
-}
-
-fn u16_of(word: &[u8]) -> Result<u16, &'static str> {
-    match number(word) {
-        Some(n) => u16::try_from(n).ok().ok_or(NOT_A_NUMBER),
-        None => Err(NOT_A_NUMBER),
-    }
-}
-
-fn u32_of(word: &[u8]) -> Result<u32, &'static str> {
-    match number(word) {
-        Some(n) => u32::try_from(n).ok().ok_or(NOT_A_NUMBER),
+        Some(n) => T::try_from(n).ok().ok_or(NOT_A_NUMBER),
         None => Err(NOT_A_NUMBER),
     }
 }

@@ -1,0 +1,7 @@
+mod Appending
+mod ByteRuns
+mod EntryLists
+mod Longest
+mod Overwrites
+pub mod Runs
+mod Seeking

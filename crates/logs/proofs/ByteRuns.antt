@@ -15,7 +15,7 @@ use Rattle.logs.specs.ByteLaws.{length-written}
 use Rattle.logs.specs.RecordRuns.{entry-bytes, entry-fits, byte-cost, written, entries-in, LongestRun}
 use Rattle.logs.proofs.Runs.{entries-written, bytes-written, run}
 
-nothing-in : entries-in [] ≡ []
+pub nothing-in : entries-in [] ≡ []
 unfolding entries-in
 nothing-in = refl
 
@@ -45,7 +45,7 @@ module _ (m : List ℕ) (used : ℕ) (inside : used ≤ length m) (whole : writt
   pub used-spent : spent byte-cost (entries-in (take used m)) ≡ used
   used-spent = sym (length-written (entries-in (take used m))) ∙ ap length whole ∙ length-take-le used m inside
 
-  fit : All (λ e. entry-fits e ≡ true) (entries-in (take used m))
+  pub fit : All (λ e. entry-fits e ≡ true) (entries-in (take used m))
   fit = run (take used m) (rw (← whole) (bytes-written (entries-in (take used m)))) .fit
 
   -- one record more behind them

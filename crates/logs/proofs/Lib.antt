@@ -1,5 +1,6 @@
 mod Appending
 mod ByteRuns
+mod Cutting
 mod EntryLists
 mod Longest
 mod Overwrites

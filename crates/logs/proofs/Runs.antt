@@ -125,7 +125,7 @@ pub entry-only : (bs : List ℕ) (e : Entry) (n : ℕ) → Bytes bs → read-ent
 unfolding read-entry
 entry-only bs e n typed h = only-entry bs (read command-record bs) (read mark-record bs) e n typed refl refl h
 
-bytes-entry : (e : Entry) → Bytes (entry-bytes e)
+pub bytes-entry : (e : Entry) → Bytes (entry-bytes e)
 bytes-entry (Command c) = bytes-framed 4 (command-record .body c) (command-lawful .bytes c)
 bytes-entry (Mark point) = bytes-framed 5 (mark-record .body point) (mark-lawful .bytes point)
 

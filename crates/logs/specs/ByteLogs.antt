@@ -3,16 +3,18 @@
 --   byte-capacity m   the number of bytes of the memory m, at most 65,536
 --   byte-log l        what a byte log means: the entries of the run in its used bytes
 --   opened m u        the log over m of which the first u bytes may hold records; u is cut to the capacity
+--   fitting u es      the entries of es whose records lie wholly in the first u bytes of them all
 --   checked m u       how many entries those u bytes hold, or the offset of the first record that is cut or unlawful
 use mathlib.Core.Bool.{cond}
-use mathlib.Core.List.{List, _++_}
-use Prim.Native.Nat.{ℕ, _+_, min}
-use lib.Dec.{eqb}
+use mathlib.Core.List.{List, [], _∷_, _++_}
+use Prim.Native.Nat.{ℕ, _+_, _-_, min}
+use lib.Dec.{eqb, leb}
 use lib.ListN.{length, take, drop}
 use denote.Ref.{now}
 use Rattle.std.specs.declared.result.Result.{Result}
 use Rattle.std.specs.declared.result.Result.the-variants.{Ok, Err}
 use Rattle.logs.specs.declared.byte_log.ByteLog.{ByteLog}
+use Rattle.logs.specs.declared.entries.Entry.{Entry}
 use Rattle.logs.specs.declared.faults.LogFault.{LogFault}
 use Rattle.logs.specs.declared.faults.LogFault.the-variants.{Unlawful}
 use Rattle.logs.specs.Logs.{Log, spent}
@@ -39,3 +41,7 @@ checked-bytes bs = cond (eqb (spent byte-cost (entries-in bs)) (length bs)) (Ok 
 
 abbrev pub checked : List ℕ → ℕ → Result ℕ LogFault
 checked m u = checked-bytes (take (min u (byte-capacity m)) m)
+
+abbrev pub fitting : ℕ → List Entry → List Entry
+fitting u [] = []
+fitting u (e ∷ es) = cond (leb (byte-cost e) u) (e ∷ fitting (u - byte-cost e) es) []

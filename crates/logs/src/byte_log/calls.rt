@@ -2,13 +2,13 @@
 ghost use mathlib.Core.Path.{_≡_};
 ghost use mathlib.Core.Bool.{cond};
 ghost use mathlib.Core.Bool.{true};
-ghost use Prim.Native.Nat.{min, _+_, _≤_};
+ghost use Prim.Native.Nat.{ℕ, min, _+_, _≤_};
 ghost use lib.Dec.{leb};
 ghost use lib.ListN.{length, take, drop};
 ghost use Rattle.std.specs.declared.option.Option.the-variants.{Some, None};
 ghost use Rattle.std.specs.Results.{isOk};
 ghost use Rattle.logs.specs.ByteLaws.{byte-log-lawful};
-ghost use Rattle.logs.specs.ByteLogs.{byte-log, opened, checked, overwritten};
+ghost use Rattle.logs.specs.ByteLogs.{byte-log, opened, checked, overwritten, fitting};
 ghost use Rattle.logs.specs.Logs.{append, verdict, emptied, Untouched};
 ghost use Rattle.logs.specs.RecordRuns.{byte-cost, entry-bytes, entry-fits, read-entry};
 use super::ByteLog;
@@ -60,6 +60,16 @@ impl<'a> ByteLog<'a> {
 }
 
 impl<'a> ByteLog<'a> {
+    // How many bytes the records take. Opened again over the same memory and this length, the log holds the same entries;
+    // and cut at any byte before, just those whose records lie wholly before the cut.
+    pub fn len(&self) -> usize
+        ensures value { λ r. ⌜ r ≡ now (self .entry) .used ⌝ }
+        ensures reopens { λ r. ⌜ opened (now (now (self .entry) .memory)) r ≡ byte-log (now (self .entry)) ⌝ }
+        ensures cuts { λ r. ⌜ ((u : ℕ) → u ≤ r → opened (now (now (self .entry) .memory)) u .entries ≡ fitting u (byte-log (now (self .entry)) .entries)) ⌝ }
+    {
+        self.used
+    }
+
     // Puts bytes behind those that are used.
     fn store(&mut self, bytes: &[u8])
         requires { ⌜ now self .used + length (now bytes) ≤ length (now (now self .memory)) ⌝ }
@@ -94,7 +104,12 @@ pub impl<'a> Log for ByteLog<'a> as ByteLogLog {
 
     ghost lawful = { byte-log-lawful };
 
-    fn append(&mut self, entry: Entry) -> Result<(), LogFault> {
+    fn append(&mut self, entry: Entry) -> Result<(), LogFault>
+        ensures answer { λ r. ⌜ r ≡ verdict byte-cost (byte-log (now (self .entry))) entry ⌝ }
+        ensures state { λ _. ⌜ byte-log (now (self .exit)) ≡ append byte-cost (byte-log (now (self .entry))) entry ⌝ }
+        ensures same { λ r. ⌜ Untouched r (now (self .entry)) (now (self .exit)) ⌝ }
+        ensures memory { λ r. ⌜ now (now (self .exit) .memory) ≡ cond (isOk r) (overwritten (now (now (self .entry) .memory)) (now (self .entry) .used) (entry-bytes entry)) (now (now (self .entry) .memory)) ⌝ }
+    {
         let mut bytes = [0; LONGEST];
         let Some(len) = write_entry(&mut bytes, entry) else {
             return Err(LogFault::Full(self.count));

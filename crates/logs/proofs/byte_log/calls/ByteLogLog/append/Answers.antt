@@ -20,7 +20,7 @@ returns-then-len-room c =
     let wrote = c .in-Some .ensures tt in
     let size = in-buffer (entry-bytes (c .args .entry)) (replicate 32 0) _ (c .in-Some .len) (wrote .answer) (wrote .after) .0 in
     let full = append-full (log .memory .now) (log .used) (log .count) (log .inside) (log .whole) (log .counted) (c .args .entry) (omega (arith, size, c .cut .ensures)) in
-    record { answer = sym (full .0); state = sym (full .1); same = refl }
+    record { answer = sym (full .0); state = sym (full .1); same = refl; memory = refl }
 
 pub add-self-2 : need.add-self-2
 add-self-2 c =
@@ -49,4 +49,4 @@ returns c =
     let after : c .store .last .self .memory .now ≡ overwritten (log .memory .now) (log .used) (entry-bytes e) = rw (sub-zero, buffer .1) at (c .store .ensures .memory) in
     let added = append-room (log .memory .now) (log .used) (log .count) (log .inside) (log .whole) (log .counted) e (wrote .fits) (omega (arith, buffer .0, c .cut .ensures)) (c .store .last .self .memory .now) after in
     let used : c .store .last .self .used + c .in-Some .len ≡ log .used + byte-cost e = omega (arith, buffer .0, c .store .ensures .used) in
-    record { answer = sym (added .0); state = rw used (sym (added .1)); same = tt }
+    record { answer = sym (added .0); state = rw used (sym (added .1)); same = tt; memory = after }

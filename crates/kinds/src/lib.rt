@@ -1,4 +1,3 @@
 // The kinds of line that there are.
 pub mod accounts;
-pub mod cases;
 pub mod stocks;

@@ -50,7 +50,7 @@ pub entries-cut : (es : List Entry) (u : ℕ) → All (λ e. entry-fits e ≡ tr
 entries-cut [] zero fits = nothing-in
 entries-cut [] (suc u) fits = nothing-in
 entries-cut (e ∷ es) u fits = elim (cases-lt u (byte-cost e)) [
-    inl short ↦
+  | inl short ↦
       let none = cut-none e (written es) u (fits .0) (bytes-written es) short (read-entry (take u (entry-bytes e ++ written es))) refl in
       entries-none (take u (entry-bytes e ++ written es)) none ∙ rw (lt-leb (byte-cost e) u short)
   | inr long ↦
@@ -59,4 +59,4 @@ entries-cut (e ∷ es) u fits = elim (cases-lt u (byte-cost e)) [
       rw (take-over u (entry-bytes e) (written es) long, le-leb (byte-cost e) u long)
       (entries-more (entry-bytes e ++ rest) e (byte-cost e) back
       ∙ rw (drop-at (entry-bytes e) rest (byte-cost e) refl) (ap (λ xs. e ∷ xs) (entries-cut es (u - byte-cost e) (fits .1))))
-  ]
+]

@@ -1,10 +1,12 @@
 use mathlib.Core.Path.{ap}
 use Rattle.lines.specs.Bytes.{le}
-use Rattle.kinds.specs.Cases.{told}
-use Rattle.kinds.proofs.cases.worked_cases.Needs as need
+use Rattle.records.specs.Changes.{change-bytes}
+use Rattle.records.specs.Framing.{framed}
+use Rattle.cases.specs.Cases.{told}
+use Rattle.cases.proofs.worked_cases.Needs as need
 
 pub returns : need.returns
-unfolding le
+unfolding le framed change-bytes
 returns c = record {
   debit = ap told (c .answer .ensures);
   debit-past = ap told (c .answer-2 .ensures);
@@ -15,4 +17,6 @@ returns c = record {
   ship = ap told (c .answer-7 .ensures);
   ship-past = ap told (c .answer-8 .ensures);
   payload = c .payload-of .ensures;
+  command = c .record-of .ensures;
+  mark = c .mark-of .ensures;
 }

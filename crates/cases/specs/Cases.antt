@@ -5,12 +5,12 @@ use Prim.Native.Nat.{ℕ}
 use lib.IntN.{ℤ, pos, negsuc}
 use Rattle.std.specs.declared.result.Result.{Result}
 use Rattle.std.specs.declared.result.Result.the-variants.{Ok, Err}
 use Rattle.kinds.specs.declared.accounts.Account.{Account}
-use Rattle.kinds.specs.declared.cases.WorkedCases.{WorkedCases}
+use Rattle.cases.specs.declared.WorkedCases.{WorkedCases}
 use Rattle.lines.specs.declared.faults.Layer.the-variants.{Line}
 use Rattle.lines.specs.declared.faults.LineFault.{LineFault}
 use Rattle.lines.specs.declared.faults.Refusal.{Refusal}
 use Rattle.kinds.specs.declared.stocks.StockLine.{StockLine}
 use Rattle.lines.specs.Faults.{refusal}
 
 -- an answer as a caller is told it
@@ -43,3 +43,7 @@ pub record Worked (r : WorkedCases) : Type 0 where
   pub ship-past : told (r .«ship_past») ≡ against-rule
   -- account −100, limit 100 is 9cffffffffffffff64000000
   pub payload : r .payload ≡ 0x9c ∷ 0xff ∷ 0xff ∷ 0xff ∷ 0xff ∷ 0xff ∷ 0xff ∷ 0xff ∷ 0x64 ∷ 0x00 ∷ 0x00 ∷ 0x00 ∷ []
+  -- adding 500 to line 0 is logged as 0b000400000001f4010000
+  pub command : r .command ≡ 0x0b ∷ 0x00 ∷ 0x04 ∷ 0x00 ∷ 0x00 ∷ 0x00 ∷ 0x01 ∷ 0xf4 ∷ 0x01 ∷ 0x00 ∷ 0x00 ∷ []
+  -- mark 1 is 0800050001000000
+  pub mark : r .mark ≡ 0x08 ∷ 0x00 ∷ 0x05 ∷ 0x00 ∷ 0x01 ∷ 0x00 ∷ 0x00 ∷ 0x00 ∷ []

@@ -1,17 +1,24 @@
 // Worked cases, as one proved table.
 ghost use mathlib.Core.Path.{_≡_};
+ghost use mathlib.Core.List.{[], _∷_};
 ghost use Rattle.kinds.specs.Accounts.{payload};
-ghost use Rattle.kinds.specs.Cases.{Worked};
+ghost use Rattle.cases.specs.Cases.{Worked};
+ghost use Rattle.records.specs.Commands.{command-record, command-of};
+ghost use Rattle.records.specs.Framing.{bytes-of};
+ghost use Rattle.records.specs.Numbers.{mark-record};
 ghost use Rattle.lines.specs.Numbered.{change};
-use crate::accounts::Account;
-use crate::accounts::AccountCoded;
-use crate::accounts::AccountLine;
-use crate::stocks::StockLine;
-use crate::stocks::StockLineLine;
+use kinds::accounts::Account;
+use kinds::accounts::AccountCoded;
+use kinds::accounts::AccountLine;
+use kinds::stocks::StockLine;
+use kinds::stocks::StockLineLine;
 use lines::changes::Change;
 use lines::faults::LineFault;
 use lines::traits::Coded;
 use lines::traits::Line;
+use records::commands::Command;
+use records::entries::write_command;
+use records::entries::write_mark;
 
 // What the calls answer in each case; `Worked` in specs/Cases.antt has the cases and what each answer is.
 pub struct WorkedCases {
@@ -24,6 +31,8 @@ pub struct WorkedCases {
     pub ship: Result<StockLine, LineFault>,
     pub ship_past: Result<StockLine, LineFault>,
     pub payload: [u8; 12],
+    pub command: [u8; 11],
+    pub mark: [u8; 8],
 }
 
 pub fn worked_cases() -> WorkedCases
@@ -54,6 +63,8 @@ pub fn worked_cases() -> WorkedCases
             balance: -100,
             limit: 100,
         }),
+        command: record_of(0, 1, 500),
+        mark: mark_of(1),
     }
 }
 
@@ -73,5 +84,24 @@ fn payload_of(account: Account) -> [u8; 12]
 {
     let mut out = [0; 12];
     let _ = account.write_payload(&mut out);
+    out
+}
+
+// The record of a command with one change.
+fn record_of(line: u16, kind: u8, amount: u32) -> [u8; 11]
+    ensures { λ r. ⌜ r ≡ bytes-of command-record (command-of (record { line = line; kind = kind; amount = amount } ∷ [])) ⌝ }
+{
+    let mut command = Command::new();
+    let _ = command.push(Change { line, kind, amount });
+    let mut out = [0; 11];
+    let _ = write_command(&mut out, &command);
+    out
+}
+
+fn mark_of(point: u32) -> [u8; 8]
+    ensures { λ r. ⌜ r ≡ bytes-of mark-record point ⌝ }
+{
+    let mut out = [0; 8];
+    let _ = write_mark(&mut out, point);
     out
 }

@@ -2,9 +2,9 @@ use mathlib.Core.Path.{_≡_, _∙_}
 use lib.ListN.{replicate}
 use mir.Syntax.{w64}
 use mir.Val.{ofZ}
 use Rattle.kinds.specs.Accounts.{payload}
 use Rattle.lines.proofs.Payloads.{put-whole, length-two}
-use Rattle.kinds.proofs.cases.payload_of.Needs as need
+use Rattle.cases.proofs.payload_of.Needs as need
 
 pub returns : need.returns
 returns c =

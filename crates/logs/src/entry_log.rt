@@ -6,6 +6,8 @@ use crate::entries::Entry;
 
 mod calls;
 
+pub use calls::EntryLogLog;
+
 // The first `count` entries of the memory are the log's. It uses 4,096 at most; what lies beyond is never touched.
 #[derive(Drop)]
 pub struct EntryLog<'a> {

@@ -67,7 +67,8 @@ impl<'a> ByteLog<'a> {
         ensures reopens { λ r. ⌜ opened (now (now (self .entry) .memory)) r ≡ byte-log (now (self .entry)) ⌝ }
         ensures cuts { λ r. ⌜ ((u : ℕ) → u ≤ r → opened (now (now (self .entry) .memory)) u .entries ≡ fitting u (byte-log (now (self .entry)) .entries)) ⌝ }
     {
-        self.used
+        let len = self.used;
+        len
     }
 
     // Puts bytes behind those that are used.

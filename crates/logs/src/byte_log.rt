@@ -7,6 +7,8 @@ ghost use Rattle.logs.specs.RecordRuns.{entries-in, written};
 
 mod calls;
 
+pub use self::calls::ByteLogLog;
+
 // The first `used` bytes of the memory are the log's: `count` whole records. It uses 65,536 bytes at most; what lies beyond is never touched.
 #[derive(Drop)]
 pub struct ByteLog<'a> {

@@ -1,4 +1,4 @@
-// Plays a script of lines and changes: prints what each change answered, and the lines at the end.
+// Plays a script of lines and changes: prints what each change answered, and the lines at the end. Checks logs too.
 mod played;
 mod script;
 
@@ -14,6 +14,10 @@ use lines::faults::LineFault;
 use lines::faults::Refusal;
 use lines::numbered::change_line;
 use lines::numbered::lawful_front;
+use logs::byte_log::ByteLog;
+use logs::byte_log::ByteLogLog;
+use logs::entries::Entry as LogEntry;
+use logs::traits::Log;
 use played::AccountPlayed;
 use played::Played;
 use played::StockLinePlayed;
@@ -29,6 +33,7 @@ use std::io::Read;
 use std::str::from_utf8;
 use words::decimal::number;
 use words::decimal::signed_number;
+use words::hex::read_hex;
 use words::pieces::cut_at;
 
 fn main(rt: LibcRuntime) -> Result<(), AnyError> {
@@ -62,7 +67,7 @@ fn script_text(rt: &LibcRuntime) -> Result<Vec<u8>, AnyError> {
     Ok(fs::read(rt, path.as_str())?)
 }
 
-// Where in a script a line stands: before any heading, among opening lines, or among changes.
+// Where in a script a line stands: in no group, among opening lines, or among changes.
 #[derive(Clone, Copy)]
 enum Under {
     Nothing,
@@ -71,9 +76,10 @@ enum Under {
 }
 
 impl Under {
-    fn then(self, step: Step) -> Under {
+    fn then(self, step: &Step) -> Under {
         match (self, step) {
-            (_, Step::Lines(kind)) => Under::Opening(kind),
+            (_, Step::Lines(kind)) => Under::Opening(*kind),
+            (_, Step::CheckLog(_, _)) => Under::Nothing,
             (Under::Opening(kind), Step::Change(_)) => Under::Changes(kind),
             _ => self,
         }
@@ -94,9 +100,9 @@ fn read_script(heap: Global, text: &[u8]) -> Result<Vec<Entry>, AnyError> {
             continue;
         }
         let words = words_of(heap, line)?;
-        match read_step(words.as_slice(), under) {
+        match read_step(heap, words.as_slice(), under)? {
             Ok(step) => {
-                under = under.then(step);
+                under = under.then(&step);
                 entries.push(Entry {
                     step,
                     echo: joined(heap, words.as_slice())?,
@@ -146,20 +152,29 @@ fn joined(heap: Global, words: &[&[u8]]) -> Result<String, AnyError> {
     Ok(text)
 }
 
-fn read_step(words: &[&[u8]], under: Under) -> Result<Step, &'static str> {
+fn read_step(
+    heap: Global,
+    words: &[&[u8]],
+    under: Under,
+) -> Result<Result<Step, &'static str>, AllocError> {
     let first = match words.first() {
         Some(word) => from_utf8(word).unwrap_or(""),
         None => "",
     };
-    match (first, under) {
-        ("lines", _) => read_heading(words),
-        ("line", Under::Opening(Kind::Account)) => read_account(words),
-        ("line", Under::Opening(Kind::Stock)) => read_stock(words),
-        ("line", Under::Changes(_)) => Err("a line after a change"),
-        ("change", Under::Opening(_) | Under::Changes(_)) => read_change(words),
-        ("line" | "change", Under::Nothing) => Err("no heading"),
-        _ => Err("unknown word"),
+    if first == "check-log" {
+        return read_check_log(heap, words);
     }
+    Ok(
+        match (first, under) {
+            ("lines", _) => read_heading(words),
+            ("line", Under::Opening(Kind::Account)) => read_account(words),
+            ("line", Under::Opening(Kind::Stock)) => read_stock(words),
+            ("line", Under::Changes(_)) => Err("a line after a change"),
+            ("change", Under::Opening(_) | Under::Changes(_)) => read_change(words),
+            ("line" | "change", Under::Nothing) => Err("no heading"),
+            _ => Err("unknown word"),
+        },
+    )
 }
 
 const NOT_A_NUMBER: &str = "not a number that fits";
@@ -205,6 +220,19 @@ fn read_change(words: &[&[u8]]) -> Result<Step, &'static str> {
     Ok(Step::Change(Change { line, kind, amount }))
 }
 
+fn read_check_log(heap: Global, words: &[&[u8]]) -> Result<Result<Step, &'static str>, AllocError> {
+    let [_, bytes, used] = words else {
+        return Ok(Err("`check-log` takes bytes and a number"));
+    };
+    let Some(bytes) = read_hex(heap, bytes)? else {
+        return Ok(Err("not bytes in hexadecimal"));
+    };
+    match number_of(used) {
+        Ok(used) => Ok(Ok(Step::CheckLog(bytes, used))),
+        Err(what) => Ok(Err(what)),
+    }
+}
+
 // The number that a word writes, if it fits T.
 fn number_of<T: TryFrom<u64> + Drop>(word: &[u8]) -> Result<T, &'static str>
 where
@@ -229,12 +257,16 @@ fn play_script(rt: &LibcRuntime, entries: &[Entry]) -> Result<(), AnyError> {
         refused: 0,
     };
     for (i, entry) in entries.iter().enumerate() {
-        if let Step::Lines(kind) = entry.step {
-            let group = group_of(&entries[i + 1..]);
-            match kind {
-                Kind::Account => play_lines::<AccountPlayed>(rt, entry, group, &mut tally)?,
-                Kind::Stock => play_lines::<StockLinePlayed>(rt, entry, group, &mut tally)?,
+        let behind = &entries[i + 1..];
+        match &entry.step {
+            Step::Lines(Kind::Account) => {
+                play_lines::<AccountPlayed>(rt, entry, group_of(behind), &mut tally)?
             }
+            Step::Lines(Kind::Stock) => {
+                play_lines::<StockLinePlayed>(rt, entry, group_of(behind), &mut tally)?
+            }
+            Step::CheckLog(bytes, used) => check_log(rt, entry, bytes.as_slice(), *used)?,
+            _ => {}
         }
     }
     let Tally { changes, refused } = tally;
@@ -246,10 +278,10 @@ fn play_script(rt: &LibcRuntime, entries: &[Entry]) -> Result<(), AnyError> {
     Ok(())
 }
 
-// The entries up to the next heading.
+// The entries up to the next heading or check of a log.
 fn group_of(entries: &[Entry]) -> &[Entry] {
     for (i, entry) in entries.iter().enumerate() {
-        if let Step::Lines(_) = entry.step {
+        if let Step::Lines(_) | Step::CheckLog(_, _) = &entry.step {
             return &entries[0..i];
         }
     }
@@ -264,7 +296,7 @@ fn play_lines<L: Played>(
 ) -> Result<(), AnyError> {
     let mut lines = Vec::new(rt.alloc());
     for entry in group {
-        if let Some(line) = L::opening(entry.step) {
+        if let Some(line) = L::opening(&entry.step) {
             lines.push(line)?;
         }
     }
@@ -272,8 +304,8 @@ fn play_lines<L: Played>(
     let count = lines.len();
     println!(rt, "{}: {count} lines", heading.echo)?;
     for entry in group {
-        if let Step::Change(change) = entry.step {
-            print_answer(rt, entry, change_line(lines.as_mut_slice(), change), tally)?;
+        if let Step::Change(change) = &entry.step {
+            print_answer(rt, entry, change_line(lines.as_mut_slice(), *change), tally)?;
         }
     }
     for (i, line) in lines.iter().enumerate() {
@@ -293,15 +325,20 @@ fn print_answer(
         Ok(()) => println!(rt, "{}: ok", entry.echo)?,
         Err(fault) => {
             tally.refused = tally.refused.saturating_add(1);
-            let Refusal {
-                number,
-                layer,
-                place,
-            } = fault.refusal();
-            let layer = layer_name(layer);
-            println!(rt, "{}: refused {number} {layer} {place}", entry.echo)?;
+            print_refusal(rt, entry, fault.refusal())?;
         }
     }
+    Ok(())
+}
+
+fn print_refusal(rt: &LibcRuntime, entry: &Entry, refusal: Refusal) -> Result<(), AnyError> {
+    let Refusal {
+        number,
+        layer,
+        place,
+    } = refusal;
+    let layer = layer_name(layer);
+    println!(rt, "{}: refused {number} {layer} {place}", entry.echo)?;
     Ok(())
 }
 
@@ -326,5 +363,37 @@ fn print_line<L: Played>(rt: &LibcRuntime, number: usize, line: &L) -> Result<()
         }
     }
     println!(rt, "")?;
+    Ok(())
+}
+
+// How many entries the bytes hold as a log, and each of them; or why they are none.
+fn check_log(rt: &LibcRuntime, entry: &Entry, bytes: &[u8], used: usize) -> Result<(), AnyError> {
+    let count = match ByteLog::check(bytes, used) {
+        Ok(count) => count,
+        Err(fault) => return print_refusal(rt, entry, fault.refusal()),
+    };
+    println!(rt, "{}: {count}", entry.echo)?;
+    let mut memory: Vec<u8> = bytes.iter().copied().collect(rt.alloc())?;
+    let log = ByteLog::open(memory.as_mut_slice(), used);
+    for i in 0..count {
+        if let Some(found) = log.get(i) {
+            print_log_entry(rt, i, found)?;
+        }
+    }
+    Ok(())
+}
+
+fn print_log_entry(rt: &LibcRuntime, number: usize, entry: LogEntry) -> Result<(), AnyError> {
+    match entry {
+        LogEntry::Mark(point) => println!(rt, "  {number} mark {point}")?,
+        LogEntry::Command(command) => {
+            print!(rt, "  {number} command")?;
+            for change in command.as_slice() {
+                let Change { line, kind, amount } = *change;
+                print!(rt, " {line} {kind} {amount}")?;
+            }
+            println!(rt, "")?;
+        }
+    }
     Ok(())
 }

@@ -10,16 +10,16 @@ use lines::traits::Line;
 
 pub trait Played: Line {
     // The opening line that a step gives, if it gives one of this kind.
-    fn opening(step: Step) -> Option<Self>;
+    fn opening(step: &Step) -> Option<Self>;
 
     // The line's two numbers, in the order in which a script writes them.
     fn numbers(&self) -> (i64, u32);
 }
 
 pub impl Played for Account as AccountPlayed {
-    fn opening(step: Step) -> Option<Account> {
+    fn opening(step: &Step) -> Option<Account> {
         match step {
-            Step::OpeningAccount(account) => Some(account),
+            Step::OpeningAccount(account) => Some(*account),
             _ => None,
         }
     }
@@ -30,9 +30,9 @@ pub impl Played for Account as AccountPlayed {
 }
 
 pub impl Played for StockLine as StockLinePlayed {
-    fn opening(step: Step) -> Option<StockLine> {
+    fn opening(step: &Step) -> Option<StockLine> {
         match step {
-            Step::OpeningStock(stock) => Some(stock),
+            Step::OpeningStock(stock) => Some(*stock),
             _ => None,
         }
     }

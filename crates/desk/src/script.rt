@@ -10,13 +10,15 @@ pub enum Kind {
 }
 
 // What one line of a script says.
-#[derive(Clone, Copy)]
+#[derive(Drop)]
 pub enum Step {
     // A heading: lines of this kind follow.
     Lines(Kind),
     OpeningAccount(Account),
     OpeningStock(StockLine),
     Change(Change),
+    // Whether these bytes, up to a number of them, are a log.
+    CheckLog(Vec<u8>, usize),
 }
 
 // A step with the words that it was written in, one space between them.

@@ -1,6 +1,6 @@
 -- Worked cases: what a reader can compute by hand, and the calls answer.
 use mathlib.Core.Path.{_≡_}
-use mathlib.Core.List.{List, [], _∷_}
+use mathlib.Core.List.{[], _∷_}
 use Prim.Native.Nat.{ℕ}
 use lib.IntN.{ℤ, pos, negsuc}
 use Rattle.std.specs.declared.result.Result.{Result}

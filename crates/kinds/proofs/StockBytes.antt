@@ -1,8 +1,7 @@
 -- The bytes of a stock line: they decode to it, and eight bytes are the payload of what they decode to.
 use mathlib.Core.Path.{_≡_}
 use mathlib.Core.Bool.{true}
-use mathlib.Core.List.{List}
-use Prim.Native.Nat.{ℕ, _^_, _<_}
+use Prim.Native.Nat.{_^_, _<_}
 use native.Mathlib.Omega.{arith}
 use Rattle.std.proofs.shelf.Ways.{tells}
 use Rattle.kinds.specs.declared.stocks.StockLine.{StockLine}

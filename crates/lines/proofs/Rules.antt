@@ -1,6 +1,6 @@
 -- An accepted change gives a line that keeps its rule, whatever the table of changes.
 use mathlib.Core.Path.{_≡_}
-use mathlib.Core.Bool.{Bool, true, cond}
+use mathlib.Core.Bool.{Bool, true}
 use mathlib.Core.List.{List, [], _∷_}
 use mathlib.Core.Logic.{inl, inr}
 use Prim.Native.Nat.{ℕ}
@@ -9,7 +9,7 @@ use lib.Dec.{eqb}
 use Rattle.std.proofs.shelf.Tests.{cases-bool}
 use Rattle.std.specs.declared.option.Option.{Option}
 use Rattle.std.specs.declared.option.Option.the-variants.{Some, None}
-use Rattle.lines.specs.Changing.{Outcome, becomes, unknown, breaks, judged, chosen}
+use Rattle.lines.specs.Changing.{Outcome, becomes, breaks, judged, chosen}
 
 module _ {L : Type 0} (keeps : L → Bool) where
   -- if o is a new line, that line keeps the rule

@@ -1,11 +1,10 @@
 -- The entry log over memory m, of which the first n entries are its own.
-use mathlib.Core.Path.{_≡_, refl, sym, ap, _∙_}
+use mathlib.Core.Path.{_≡_, sym, ap, _∙_}
 use mathlib.Core.Bool.{true, false}
-use mathlib.Core.List.{List, [], _∷_, _++_}
+use mathlib.Core.List.{List}
 use mathlib.Core.Logic.{_⊎_, inl, inr}
 use Prim.Native.Nat.{ℕ, _+_, _≤_, _<_, min}
 use native.Mathlib.Omega.{arith}
-use lib.Dec.{leb}
 use lib.ListN.{length, take, set, getD}
 use Rattle.std.proofs.shelf.Lists.{length-take-le, length-set, take-more-set, getD-take}
 use Rattle.std.proofs.shelf.Maps.{nth-getD, nth-past}

@@ -1,23 +1,23 @@
 -- No log record is longer than 32 bytes, so bytes behind those do not matter to reading one.
-use mathlib.Core.Path.{_≡_, refl, sym, ap, _∙_}
-use mathlib.Core.Bool.{Bool, true, false, cond, _&&_}
+use mathlib.Core.Path.{_≡_, refl, sym, _∙_}
+use mathlib.Core.Bool.{false, cond, _&&_}
 use mathlib.Core.List.{List}
 use mathlib.Core.Logic.{inl, inr}
-use Prim.Native.Nat.{ℕ, _+_, _-_, _≤_, _<_, min}
+use Prim.Native.Nat.{ℕ, _-_, _<_, min}
 use native.Mathlib.Omega.{arith}
 use lib.Dec.{eqb, leb}
 use lib.ListN.{length, take, drop}
 use Rattle.std.proofs.shelf.Lists.{length-take, length-drop, take-take, drop-take}
-use Rattle.std.proofs.shelf.Tests.{cases-bool, cases-lt, le-leb, lt-leb, leb-true, and-parts, and-left, and-right, ne-eqb}
+use Rattle.std.proofs.shelf.Tests.{cases-bool, cases-lt, lt-leb, and-right, ne-eqb}
 use Rattle.std.proofs.shelf.Ways.{tells}
 use Rattle.std.specs.declared.option.Option.{Option}
-use Rattle.std.specs.declared.option.Option.the-variants.{Some, None}
+use Rattle.std.specs.declared.option.Option.the-variants.{None}
 use Rattle.lines.specs.Bytes.{number}
 use Rattle.records.proofs.ChangeBytes.{command-refused}
-use Rattle.records.specs.Commands.{command-record, command-with}
+use Rattle.records.specs.Commands.{command-record}
 use Rattle.records.specs.Framing.{Layout, read, sized}
 use Rattle.records.specs.Numbers.{mark-record}
-use Rattle.logs.specs.RecordRuns.{or-mark, read-entry}
+use Rattle.logs.specs.RecordRuns.{read-entry}
 
 module _ {V : Type 0} (l : Layout V) where
   -- reading a record, as one test

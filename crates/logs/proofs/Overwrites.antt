@@ -1,11 +1,11 @@
 -- Memory that is written byte by byte behind its first u bytes.
-use mathlib.Core.Path.{_≡_, refl, sym, ap, _∙_}
+use mathlib.Core.Path.{_≡_, sym, _∙_}
 use mathlib.Core.List.{List, [], _∷_, _++_}
 use mathlib.Core.Logic.{inl, inr}
 use Prim.Native.Nat.{ℕ, _+_, _-_, _≤_, _<_, min}
 use native.Mathlib.Omega.{arith}
 use lib.ListN.{length, take, drop, set, getD}
-use Rattle.std.proofs.shelf.Lists.{append-nil, append-assoc, length-take-le, length-append, set-append-right, drop-more, take-more, take-at, take-append-drop, take-all, take-take, take-more-set, length-take, length-drop, getD-drop, drop-take}
+use Rattle.std.proofs.shelf.Lists.{append-assoc, length-take-le, set-append-right, drop-more, take-more, take-append-drop, take-all, take-take, take-more-set, length-take, length-drop, getD-drop, drop-take}
 use Rattle.std.proofs.shelf.Tests.{cases-lt}
 use Rattle.logs.specs.ByteLogs.{overwritten}
 
@@ -16,10 +16,6 @@ module _ (m : List ℕ) (u : ℕ) (inside : u ≤ length m) where
   -- nothing written yet
   pub overwritten-none : m ≡ overwritten m u []
   overwritten-none = let e : u + 0 ≡ u = omega arith in rw e (sym (take-append-drop u m))
-
-  -- what was written stands behind the first u bytes
-  pub front-same : (bs : List ℕ) → take u (overwritten m u bs) ≡ take u m
-  front-same bs = take-at (take u m) (bs ++ drop (u + length bs) m) u long
 
   -- one byte more
   pub overwritten-more : (bs : List ℕ) (k : ℕ) → k < length bs → u + k < length m

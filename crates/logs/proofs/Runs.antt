@@ -6,7 +6,7 @@ use Prim.Native.Nat.{ℕ, zero, suc, _+_, _-_, _≤_, _<_}
 use native.Mathlib.Omega.{arith}
 use lib.ListN.{length, take, drop}
 use Rattle.std.proofs.shelf.Elements.{all-drop}
-use Rattle.std.proofs.shelf.Lists.{length-drop, length-append, append-assoc, drop-at, drop-drop, take-rest}
+use Rattle.std.proofs.shelf.Lists.{length-drop, append-assoc, drop-at, drop-drop, take-rest}
 use Rattle.std.specs.declared.option.Option.{Option}
 use Rattle.std.specs.declared.option.Option.the-variants.{Some, None}
 use Rattle.std.specs.shelf.Lists.{All}
@@ -21,7 +21,6 @@ use Rattle.records.proofs.OneNumber.{mark-lawful}
 use Rattle.logs.specs.declared.entries.Entry.{Entry}
 use Rattle.logs.specs.declared.entries.Entry.the-variants.{Command, Mark}
 use Rattle.logs.specs.Logs.{spent}
-use Rattle.logs.specs.ByteLaws.{length-written}
 use Rattle.logs.specs.RecordRuns.{entry-bytes, entry-fits, byte-cost, written, or-mark, read-entry, entries-within, entries-in, LongestRun}
 
 -- a record that is read has four bytes at least, is all there, and has its kind

@@ -17,7 +17,7 @@ use Rattle.std.specs.declared.option.Option.{Option}
 use Rattle.std.specs.declared.option.Option.the-variants.{Some, None}
 use Rattle.records.specs.declared.commands.Command.{Command as Changes}
 use Rattle.records.specs.Commands.{command-record}
-use Rattle.records.specs.Framing.{Layout, bytes-of, read}
+use Rattle.records.specs.Framing.{bytes-of, read}
 use Rattle.records.specs.Numbers.{mark-record}
 use Rattle.logs.specs.declared.entries.Entry.{Entry}
 use Rattle.logs.specs.declared.entries.Entry.the-variants.{Command, Mark}

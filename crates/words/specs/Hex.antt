@@ -5,7 +5,7 @@
 --   byte c d    the byte that the digits c and d write, the higher first, if both are digits
 --   pairs cs    the bytes that cs writes, pair by pair, if every pair writes one and no digit is left over
 --   hex cs      the bytes that the word cs writes: none at all for `-`, else those of its pairs, of which there is one or more
-use mathlib.Core.Bool.{Bool, true, false, cond, _&&_}
+use mathlib.Core.Bool.{cond, _&&_}
 use mathlib.Core.List.{List, [], _∷_, _++_}
 use Prim.Native.Nat.{ℕ, _+_, _-_, _*_}
 use lib.Dec.{eqb, leb}

@@ -1,5 +1,5 @@
 use mathlib.Core.Path.{_≡_, _∙_}
-use mathlib.Core.List.{List, [], _∷_}
+use mathlib.Core.List.{[], _∷_}
 use lib.ListN.{length, replicate}
 use Rattle.lines.proofs.Payloads.{put-whole}
 use Rattle.lines.specs.declared.changes.Change.{Change}

@@ -1,4 +1,3 @@
-use mathlib.Core.Path.{_∙_}
 use Rattle.std.proofs.shelf.Results.{err-from-errBy}
 use Rattle.lines.proofs.Making.{make-past, make-ok, make-err}
 use Rattle.lines.proofs.numbered.change_line.Needs as need

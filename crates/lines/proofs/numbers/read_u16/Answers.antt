@@ -1,4 +1,3 @@
-use native.Mathlib.Omega.{arith}
 use borrow.Author.Needs.{needs}
 use Rattle.lines.proofs.LittleEndian.{number-2}
 use Rattle.lines.proofs.numbers.read_u16.Needs as need

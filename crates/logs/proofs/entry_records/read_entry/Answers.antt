@@ -1,4 +1,3 @@
-use borrow.Author.Needs.{needs}
 use Rattle.logs.specs.RecordRuns.{read-entry}
 use Rattle.logs.proofs.entry_records.read_entry.Needs as need
 

@@ -1,4 +1,3 @@
-use mathlib.Core.List.{_++_}
 use native.Mathlib.Omega.{arith}
 use mir.Syntax.{w64}
 use mir.Val.{ofZ}

@@ -1,7 +1,7 @@
 use mathlib.Core.Path.{_≡_, ap, _∙_}
 use native.Mathlib.Nat.{sub-zero}
 use native.Mathlib.Omega.{arith}
-use lib.ListN.{length, take, drop, set}
+use lib.ListN.{take, drop}
 use Rattle.std.proofs.shelf.Lists.{length-set}
 use Rattle.logs.specs.RecordRuns.{read-entry}
 use Rattle.logs.proofs.Longest.{entry-front}

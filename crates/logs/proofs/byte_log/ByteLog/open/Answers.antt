@@ -2,7 +2,7 @@ use mathlib.Core.Path.{_≡_, refl, sym, ap, _∙_}
 use Prim.Native.Nat.{min}
 use native.Mathlib.Nat.{sub-zero}
 use native.Mathlib.Omega.{arith}
-use lib.ListN.{length, take}
+use lib.ListN.{length}
 use Rattle.logs.specs.ByteLogs.{byte-capacity}
 use Rattle.logs.proofs.ByteRuns.{front}
 use Rattle.logs.proofs.byte_log.ByteLog.open.Needs as need

@@ -1,8 +1,7 @@
-use mathlib.Core.Path.{_≡_, refl, sym, ap, _∙_}
+use mathlib.Core.Path.{_≡_, refl}
 use Prim.Native.Nat.{_+_}
 use native.Mathlib.Omega.{arith}
-use borrow.Author.Needs.{needs}
-use lib.ListN.{length, take, set, getD}
+use lib.ListN.{take, set, getD}
 use Rattle.std.proofs.shelf.Lists.{take-all, take-set-le, length-set}
 use Rattle.logs.proofs.Overwrites.{overwritten-none, overwritten-more}
 use Rattle.logs.proofs.byte_log.ByteLog.store.Needs as need

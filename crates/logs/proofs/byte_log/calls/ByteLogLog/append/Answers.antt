@@ -1,10 +1,10 @@
-use mathlib.Core.Path.{_≡_, refl, sym, ap, _∙_}
+use mathlib.Core.Path.{_≡_, refl, sym}
 use Prim.Native.Nat.{_+_, _-_, _≤_}
 use native.Mathlib.Nat.{sub-zero}
 use native.Mathlib.Omega.{arith}
 use borrow.Author.Needs.{needs}
-use lib.ListN.{length, take, replicate}
-use Rattle.logs.specs.ByteLogs.{byte-capacity, overwritten}
+use lib.ListN.{replicate}
+use Rattle.logs.specs.ByteLogs.{overwritten}
 use Rattle.logs.specs.RecordRuns.{entry-bytes, byte-cost}
 use Rattle.logs.proofs.Appending.{cost-most, in-buffer, no-buffer, count-few, append-full, append-room, append-sound}
 use Rattle.logs.proofs.byte_log.calls.ByteLogLog.append.Needs as need

@@ -82,6 +82,18 @@ mod tests {
         check(log.get(0).is_none())
     }
 
+    // A log over no memory has no room for anything.
+    #[test]
+    fn no_capacity() -> Result<(), Fail> {
+        let mut none = [Entry::Mark(9); 0];
+        check(EntryLog::open(&mut none).append(Entry::Mark(1)) == Err(LogFault::Full(0)))?;
+        let mut short = [0u8; 3];
+        let mut log = ByteLog::open(&mut short, 3);
+        check(log.append(Entry::Command(command(0))) == Err(LogFault::Full(0)))?;
+        check_eq(log.len(), 0)?;
+        check(ByteLog::check(&short, 3) == Err(LogFault::Unlawful(0)))
+    }
+
     #[test]
     fn byte_logs() -> Result<(), Fail> {
         let mut memory = [0u8; 19];

@@ -34,7 +34,7 @@ impl Mode {
 }
 
 // The type code of the image's lines, its mode, the number of its lines, and the points that it is from and at.
-#[derive(Clone, Copy, PartialEq, Eq)]
+#[derive(Clone, Copy)]
 pub struct Head {
     pub code: u8,
     pub mode: Mode,

@@ -5,7 +5,7 @@ use lines::numbers::read_u16;
 use lines::traits::Coded;
 
 // A line with its number.
-#[derive(Clone, Copy, PartialEq, Eq)]
+#[derive(Clone, Copy)]
 pub struct ImageLine<L> {
     pub number: u16,
     pub line: L,

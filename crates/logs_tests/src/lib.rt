@@ -94,6 +94,27 @@ mod tests {
         check(ByteLog::check(&short, 3) == Err(LogFault::Unlawful(0)))
     }
 
+    // Marks appended until one is refused.
+    fn filled<G: Log>(log: &mut G) -> usize {
+        for point in 0u32..70_000 {
+            if log.append(Entry::Mark(point)).is_err() {
+                return log.count();
+            }
+        }
+        0
+    }
+
+    // Memory beyond what a log may use is left alone.
+    #[test]
+    fn limits(rt: LibcRuntime) -> Result<(), Fail> {
+        let mut entries = vec![in rt.alloc(); Entry::Mark(9); 4_097]?;
+        check_eq(filled(&mut EntryLog::open(entries.as_mut_slice())), 4_096)?;
+        let mut bytes = vec![in rt.alloc(); 7u8; 65_537]?;
+        check_eq(filled(&mut ByteLog::open(bytes.as_mut_slice(), 0)), 8_192)?;
+        check(ByteLog::check(bytes.as_slice(), 65_537) == Ok(8_192))?;
+        check_eq(bytes.last().copied(), Some(7))
+    }
+
     #[test]
     fn byte_logs() -> Result<(), Fail> {
         let mut memory = [0u8; 19];

@@ -1,4 +1,6 @@
 // Worked cases of the image and of the book, as one proved table.
+#![tactic(auto)]
+
 ghost use Rattle.std.specs.Prelude.{◌≡◌};
 ghost use Rattle.kinds.specs.Accounts.{account};
 ghost use Rattle.book_cases.specs.Cases.{Worked, empty_book};

@@ -1,4 +1,6 @@
 // Worked cases, as one proved table.
+#![tactic(auto)]
+
 ghost use Rattle.std.specs.Prelude.{◌≡◌, [], ◌∷◌};
 ghost use Rattle.kinds.specs.Accounts.{payload};
 ghost use Rattle.cases.specs.Cases.{Worked};

@@ -1,4 +1,6 @@
 // Plays a script of lines and changes: prints what each change answered, and the lines at the end. Reports on logs and images too.
+#![tactic(auto)]
+
 mod played;
 mod printing;
 mod reading;

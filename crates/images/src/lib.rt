@@ -1,3 +1,5 @@
 // Images: what makes one lawful, and how it is read.
+#![tactic(auto)]
+
 pub mod faults;
 pub mod reader;

@@ -1,3 +1,5 @@
 // Two images joined into one newer image.
+#![tactic(auto)]
+
 pub mod faults;
 pub mod join;

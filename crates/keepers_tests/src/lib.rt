@@ -1,4 +1,6 @@
 // Scenes that every keeper plays alike, on accounts. Apart from the keepers, so that their proofs are not checked twice.
+#![tactic(auto)]
+
 #[cfg(test)]
 mod tests {
     use keepers::faults::KeeperFault;

@@ -1,3 +1,5 @@
 // The kinds of line that there are.
+#![tactic(auto)]
+
 pub mod accounts;
 pub mod stocks;

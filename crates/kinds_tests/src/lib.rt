@@ -1,4 +1,6 @@
 // Tests of the kinds of line at their edges, apart from the kinds so that their proofs are not checked twice.
+#![tactic(auto)]
+
 #[cfg(test)]
 mod tests {
     use kinds::accounts::Account;

@@ -20,8 +20,8 @@ pub fn lawful_front<L: Coded>(lines: &[L]) -> usize
 
 // Makes one change on the line that it names. A refusal leaves every line as it was.
 pub fn change_line<L: Line>(lines: &mut [L], change: Change) -> Result<(), LineFault>
-    ensures answer { result ≡ verdict (make changed lines.old change) }
-    ensures state { lines.new ≡ standing lines.old (make changed lines.old change) }
+    ensures answer { result ≡ verdict (make L.changed lines.old change) }
+    ensures state { lines.new ≡ standing lines.old (make L.changed lines.old change) }
 {
     let i = change.line as usize;
     if i >= lines.len() {
@@ -34,8 +34,8 @@ pub fn change_line<L: Line>(lines: &mut [L], change: Change) -> Result<(), LineF
 
 // Makes changes in order and stops at the first that is refused; those before it stand.
 pub fn change_lines<L: Line>(lines: &mut [L], changes: &[Change]) -> Result<(), LineFault>
-    ensures answer { result ≡ verdicts changed lines.old changes.now }
-    ensures state { lines.new ≡ after changed lines.old changes.now }
+    ensures answer { result ≡ verdicts L.changed lines.old changes.now }
+    ensures state { lines.new ≡ after L.changed lines.old changes.now }
 {
     for change in changes {
         change_line(lines, *change)?;

@@ -1,4 +1,6 @@
 // Tests of the records of a log and of the two logs, apart from them so that their proofs are not checked twice.
+#![tactic(auto)]
+
 #[cfg(test)]
 mod tests {
     use lines::changes::Change;

@@ -1,5 +1,7 @@
 // The three methods side by side, over a table of interleavings: whatever a keeper is asked, each answers the same. Apart from the methods, so that
 // their proofs are not checked twice.
+#![tactic(auto)]
+
 #[cfg(test)]
 mod tests {
     use calc::backed::Calc;

@@ -1,4 +1,6 @@
 // The records that images and logs are made of: their bytes, written at the front of memory and read from there.
+#![tactic(auto)]
+
 pub mod commands;
 pub mod entries;
 mod frames;

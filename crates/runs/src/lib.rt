@@ -1,4 +1,6 @@
 // Runs of a book, as whoever keeps the transcript sees them: definitions over events, and what is proved of them so far; see specs/.
+#![tactic(auto)]
+
 ghost use Rattle.runs.specs.Laws.{LogLaw};
 
 use lines::traits::Line;

@@ -16,8 +16,8 @@ returns c = record {
   run-history = refl;
   run-image = refl;
   run-no-image = refl;
-  image-head = c.head-of-empty.ensures;
-  image-end = c.end-of-empty.ensures;
-  image = rw (c.head-of-empty.ensures, c.end-of-empty.ensures) (sym (writing-parts account empty_book));
-  image-read = rw (c.head-of-empty.ensures, c.end-of-empty.ensures);
+  image_head = c.head_of_empty.ensures;
+  image_end = c.end_of_empty.ensures;
+  image = rw (c.head_of_empty.ensures, c.end_of_empty.ensures) (sym (writing-parts account empty_book));
+  image-read = rw (c.head_of_empty.ensures, c.end_of_empty.ensures);
 }

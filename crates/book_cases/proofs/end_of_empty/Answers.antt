@@ -6,4 +6,4 @@ use Rattle.images.proofs.Accepted.{length_end}
 use Rattle.book_cases.proofs.end_of_empty.Goals as goal
 
 pub returns : goal.returns
-returns c = c.write-end.ensures.after ∙ put_whole (bytes_of end_record 0) (replicate 6 0) (length_end 0)
+returns c = c.write_end.ensures.after ∙ put_whole (bytes_of end_record 0) (replicate 6 0) (length_end 0)

@@ -13,4 +13,4 @@ pub returns : goal.returns
 returns c =
     let h = head_of account empty_book in
     let long : length (bytes_of head_record h) ≡ 16 = length-framed 1 (head_record.body h) ∙ rw (length-head h) in
-    c.write-head.ensures.after ∙ rw c.type-code.ensures (put_whole (bytes_of head_record h) (replicate 16 0) long)
+    c.write_head.ensures.after ∙ rw c.type_code.ensures (put_whole (bytes_of head_record h) (replicate 16 0) long)

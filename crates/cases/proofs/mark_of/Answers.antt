@@ -10,4 +10,4 @@ use Rattle.cases.proofs.mark_of.Goals as goal
 pub returns : goal.returns
 returns c =
     let long = length-framed 5 (le 4 c.args.point) ∙ rw (length-le 4 c.args.point) in
-    c.write-mark.ensures.after ∙ put_whole (bytes_of mark_record c.args.point) (replicate 8 0) long
+    c.write_mark.ensures.after ∙ put_whole (bytes_of mark_record c.args.point) (replicate 8 0) long

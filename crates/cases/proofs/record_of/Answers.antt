@@ -15,4 +15,4 @@ returns c =
     let one : changes_of c.push.new.self ≡ x ∷ [] = rw c.new-command.ensures at c.push.ensures.after in
     let is = command_is c.push.new.self (x ∷ []) one in
     let long : length (bytes_of command_record (command_of (x ∷ []))) ≡ 11 = length-framed 4 (changes_bytes (x ∷ [])) ∙ rw (length-changes_bytes (x ∷ [])) in
-    c.write-command.ensures.after ∙ rw is (put_whole (bytes_of command_record (command_of (x ∷ []))) (replicate 11 0) long)
+    c.write_command.ensures.after ∙ rw is (put_whole (bytes_of command_record (command_of (x ∷ []))) (replicate 11 0) long)

@@ -9,14 +9,14 @@ pub returns : goal.returns
 unfolding le framed change_bytes
 returns c = record {
   debit = ap told c.answer.ensures;
-  debit-past = ap told c.answer-2.ensures;
-  at-ceiling = ap told c.answer-3.ensures;
-  past-ceiling = ap told c.answer-4.ensures;
+  debit_past = ap told c.answer-2.ensures;
+  at_ceiling = ap told c.answer-3.ensures;
+  past_ceiling = ap told c.answer-4.ensures;
   reserve = ap told c.answer-5.ensures;
-  reserve-past = ap told c.answer-6.ensures;
+  reserve_past = ap told c.answer-6.ensures;
   ship = ap told c.answer-7.ensures;
-  ship-past = ap told c.answer-8.ensures;
-  payload = c.payload-of.ensures;
-  command = c.record-of.ensures;
-  mark = c.mark-of.ensures;
+  ship_past = ap told c.answer-8.ensures;
+  payload = c.payload_of.ensures;
+  command = c.record_of.ensures;
+  mark = c.mark_of.ensures;
 }

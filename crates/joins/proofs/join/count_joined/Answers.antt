@@ -22,7 +22,7 @@ returns g c =
     record {
       most = omega (arith, c.loop-next.invariant.0, c.loop-next.invariant.1, c.loop-next.invariant.2);
       lines = λ a b ra rb fit.
-          let none = ap length (left_none f g.met.C.Coded.lawful c.args.earlier c.args.later a b ra rb c.loop-next.place.earlier c.loop-next.place.later c.in-default.ensures) in
+          let none = ap length (left_none f g.met.C.Coded.lawful c.args.earlier c.args.later a b ra rb c.loop-next.place.earlier c.loop-next.place.later c.in_default.ensures) in
           let all = ap length (overlay_joined f a b ra.lawful rb.lawful fit) in
           omega (arith, c.loop-next.invariant.3 a b ra rb);
     }

@@ -17,7 +17,7 @@ returns-in-Err g c =
     let none = read_err f x c.in-Err.fault (reading f x) refl c.in-Err.ensures.answer in
     let answer : Err (Earlier c.in-Err.fault) ≡ lengthed (within (length m) (joined f x y)) = rw none in
     let after : m ≡ laid_in m (within (length m) (joined f x y)) = rw none in
-    record { answer = answer; after = after; lawful = join_law f met x y m (bytes_typed x c.type-inv.earlier) (bytes_typed y c.type-inv.later) _ m answer after; grouping = grouped f met }
+    record { answer = answer; after = after; lawful = join_law f met x y m (bytes_typed x c.type_inv.earlier) (bytes_typed y c.type_inv.later) _ m answer after; grouping = grouped f met }
 
 pub returns-in-Err-read : goal.returns-in-Err-read
 returns-in-Err-read g c =
@@ -30,10 +30,10 @@ returns-in-Err-read g c =
     let none = read_err f y c.in-Err-read.fault (reading f y) refl c.in-Err-read.ensures.answer in
     let answer : Err (Later c.in-Err-read.fault) ≡ lengthed (within (length m) (joined f x y)) = rw (old.1, none) in
     let after : m ≡ laid_in m (within (length m) (joined f x y)) = rw (old.1, none) in
-    record { answer = answer; after = after; lawful = join_law f met x y m (bytes_typed x c.type-inv.earlier) (bytes_typed y c.type-inv.later) _ m answer after; grouping = grouped f met }
+    record { answer = answer; after = after; lawful = join_law f met x y m (bytes_typed x c.type_inv.earlier) (bytes_typed y c.type_inv.later) _ m answer after; grouping = grouped f met }
 
-pub join-images-requires : goal.join-images-requires
-join-images-requires g c =
+pub join_images-requires : goal.join_images-requires
+join_images-requires g c =
     let f = g.C.Coded.coding in
     let old = read_as f c.args.earlier.now c.in-Ok.image c.in-Ok.ensures.one (reading f c.args.earlier.now) refl c.in-Ok.ensures.answer in
     let new = read_as f c.args.later.now c.in-Ok-read.image c.in-Ok-read.ensures.one (reading f c.args.later.now) refl c.in-Ok-read.ensures.answer in
@@ -48,6 +48,6 @@ returns g c =
     let m = c.args.out.now in
     let old = read_as f x c.in-Ok.image c.in-Ok.ensures.one (reading f x) refl c.in-Ok.ensures.answer in
     let new = read_as f y c.in-Ok-read.image c.in-Ok-read.ensures.one (reading f y) refl c.in-Ok-read.ensures.answer in
-    let answer : c.join-images.result ≡ lengthed (within (length m) (joined f x y)) = rw (old.1, new.1) (c.join-images.ensures.answer old.0 new.0 old.2 new.2) in
-    let after : c.join-images.new.out ≡ laid_in m (within (length m) (joined f x y)) = rw (old.1, new.1) (c.join-images.ensures.after old.0 new.0 old.2 new.2) in
-    record { answer = answer; after = after; lawful = join_law f met x y m (bytes_typed x c.type-inv.earlier) (bytes_typed y c.type-inv.later) _ _ answer after; grouping = grouped f met }
+    let answer : c.join_images.result ≡ lengthed (within (length m) (joined f x y)) = rw (old.1, new.1) (c.join_images.ensures.answer old.0 new.0 old.2 new.2) in
+    let after : c.join_images.new.out ≡ laid_in m (within (length m) (joined f x y)) = rw (old.1, new.1) (c.join_images.ensures.after old.0 new.0 old.2 new.2) in
+    record { answer = answer; after = after; lawful = join_law f met x y m (bytes_typed x c.type_inv.earlier) (bytes_typed y c.type_inv.later) _ _ answer after; grouping = grouped f met }

@@ -7,9 +7,9 @@ pub returns : goal.returns
 returns g c =
     let m = c.args.out.now in
     let one = bytes_of (line_record g.C.Coded.coding) c.args.line in
-    let answer = c.write-line.ensures.answer in
-    let after = c.write-line.ensures.after in
+    let answer = c.write_line.ensures.answer in
+    let after = c.write_line.ensures.after in
     record {
-      within = laid_within m c.args.at c.requires one _ c.write-line.new.out c.unwrap-or.result answer after c.unwrap-or.ensures;
-      put = laid m c.args.at c.requires one _ c.write-line.new.out c.unwrap-or.result answer after c.unwrap-or.ensures;
+      within = laid_within m c.args.at c.requires one _ c.write_line.new.out c.unwrap_or.result answer after c.unwrap_or.ensures;
+      put = laid m c.args.at c.requires one _ c.write_line.new.out c.unwrap_or.result answer after c.unwrap_or.ensures;
     }

@@ -23,12 +23,12 @@ loop-next-preserved g c =
     let p = c.in-Some.next in
     let found = c.in-Some.ensures in
     let m = moved f c.args.earlier c.args.later i j p found c.loop-next.invariant.1 c.loop-next.invariant.2 in (
-      c.put-line-at.ensures.within,
+      c.put_line-at.ensures.within,
       m.0,
       m.1,
       λ a b ra rb fit room.
           let more = left_more f g.met.C.Coded.lawful c.args.earlier c.args.later a b ra rb i j p found in
-          one_more f (join a b).lines c.args.out.now c.args.start c.requires room _ c.loop-next.out c.loop-next.at (c.loop-next.invariant.3 a b ra rb fit room) p.line _ c.put-line-at.new.out c.put-line-at.result more c.put-line-at.ensures.put,
+          one_more f (join a b).lines c.args.out.now c.args.start c.requires room _ c.loop-next.out c.loop-next.at (c.loop-next.invariant.3 a b ra rb fit room) p.line _ c.put_line-at.new.out c.put_line-at.result more c.put_line-at.ensures.put,
     )
 
 pub returns : goal.returns
@@ -37,6 +37,6 @@ returns g c =
     record {
       within = c.loop-next.invariant.0;
       put = λ a b ra rb fit room.
-          let none = left_none f g.met.C.Coded.lawful c.args.earlier c.args.later a b ra rb c.loop-next.place.earlier c.loop-next.place.later c.in-default.ensures in
+          let none = left_none f g.met.C.Coded.lawful c.args.earlier c.args.later a b ra rb c.loop-next.place.earlier c.loop-next.place.later c.in_default.ensures in
           all_done f (join a b).lines c.args.out.now c.args.start c.requires room _ c.loop-next.out c.loop-next.at (c.loop-next.invariant.3 a b ra rb fit room) none;
     }

@@ -7,13 +7,13 @@ returns-then-i-lines g c =
     let refused = make_past g.L.Line.changed c.args.lines.now c.args.change c.if-i-lines.true in
     record { answer = rw refused; state = rw refused }
 
-pub returns-in-err-lines : goal.returns-in-err-lines
-returns-in-err-lines g c =
-    let refused = make_err g.L.Line.changed c.args.lines.now c.args.change c.index-lines-i.result c.if-i-lines.false c.index-lines-i.is _ c.in-err-lines.ensures in
-    let fault = err_from_is_err_and c.from-residual.result c.from-residual.ensures.1 in
+pub returns-in_err-lines : goal.returns-in_err-lines
+returns-in_err-lines g c =
+    let refused = make_err g.L.Line.changed c.args.lines.now c.args.change c.index-lines-i.result c.if-i-lines.false c.index-lines-i.is _ c.in_err-lines.ensures in
+    let fault = err_from_is_err_and c.from_residual.result c.from_residual.ensures.1 in
     record { answer = rw refused (rw (fault.1, fault.2)); state = rw refused }
 
 pub returns : goal.returns
 returns g c =
-    let made = make_ok g.L.Line.changed c.args.lines.now c.args.change c.index-lines-i.result c.if-i-lines.false c.index-lines-i.is _ c.in-ok-lines.ensures in
+    let made = make_ok g.L.Line.changed c.args.lines.now c.args.change c.index-lines-i.result c.if-i-lines.false c.index-lines-i.is _ c.in_ok-lines.ensures in
     record { answer = rw made; state = rw made }

@@ -5,10 +5,10 @@ pub returns-in-Some : goal.returns-in-Some
 unfolding read_entry
 returns-in-Some c = rw (← c.in-Some.ensures.answer)
 
-pub returns-in-err-point : goal.returns-in-err-point
+pub returns-in_err-point : goal.returns-in_err-point
 unfolding read_entry
-returns-in-err-point c = rw (c.from-residual.ensures, ← c.in-default.ensures.answer, ← c.in-err-point.ensures.answer)
+returns-in_err-point c = rw (c.from_residual.ensures, ← c.in_default.ensures.answer, ← c.in_err-point.ensures.answer)
 
 pub returns : goal.returns
 unfolding read_entry
-returns c = rw (← c.in-default.ensures.answer, ← c.in-ok-point.ensures.answer)
+returns c = rw (← c.in_default.ensures.answer, ← c.in_ok-point.ensures.answer)

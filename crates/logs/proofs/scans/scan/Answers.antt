@@ -6,14 +6,14 @@ use Rattle.logs.proofs.Runs.{step, step_none, run}
 use Rattle.logs.proofs.scans.scan.Goals as goal
 
 pub overflow-add-len : goal.overflow-add-len
-overflow-add-len c = let s = step c.args.bytes.now c.loop-found.len c.in-Some.found (bytes_typed c.args.bytes.now c.type-inv.bytes) c.loop-found.invariant.0 c.in-Some.ensures in search rules
+overflow-add-len c = let s = step c.args.bytes.now c.loop-found.len c.in-Some.found (bytes_typed c.args.bytes.now c.type_inv.bytes) c.loop-found.invariant.0 c.in-Some.ensures in search rules
 
 pub loop-found-smaller : goal.loop-found-smaller
-loop-found-smaller c = let s = step c.args.bytes.now c.loop-found.len c.in-Some.found (bytes_typed c.args.bytes.now c.type-inv.bytes) c.loop-found.invariant.0 c.in-Some.ensures in omega arith
+loop-found-smaller c = let s = step c.args.bytes.now c.loop-found.len c.in-Some.found (bytes_typed c.args.bytes.now c.type_inv.bytes) c.loop-found.invariant.0 c.in-Some.ensures in omega arith
 
 pub loop-found-preserved : goal.loop-found-preserved
 loop-found-preserved c =
-    let s = step c.args.bytes.now c.loop-found.len c.in-Some.found (bytes_typed c.args.bytes.now c.type-inv.bytes) c.loop-found.invariant.0 c.in-Some.ensures in
+    let s = step c.args.bytes.now c.loop-found.len c.in-Some.found (bytes_typed c.args.bytes.now c.type_inv.bytes) c.loop-found.invariant.0 c.in-Some.ensures in
     let bs = c.args.bytes.now in
     let rest = drop (c.loop-found.len + c.in-Some.found.1) bs in
     let count : length (entries_in (drop c.loop-found.len bs)) ≡ 1 + length (entries_in rest) = ap length s.entries ∙ omega arith in
@@ -23,7 +23,7 @@ loop-found-preserved c =
 pub returns : goal.returns
 returns c =
     let bs = c.args.bytes.now in
-    let none = step_none bs c.loop-found.len c.in-default.ensures in
+    let none = step_none bs c.loop-found.len c.in_default.ensures in
     let count = ap length none in
     let cost = ap (spent byte_cost) none in
-    record { count = omega (arith, count, c.loop-found.invariant.2); len = omega (arith, cost, c.loop-found.invariant.3); longest = run bs (bytes_typed bs c.type-inv.bytes) }
+    record { count = omega (arith, count, c.loop-found.invariant.2); len = omega (arith, cost, c.loop-found.invariant.3); longest = run bs (bytes_typed bs c.type_inv.bytes) }

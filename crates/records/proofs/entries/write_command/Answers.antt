@@ -12,7 +12,7 @@ returns c =
     let body : take (7 * c.len.result - 0) c.slots-slots.result ≡ changes_bytes (changes_of command) =
     rw (c.slots-slots.ensures.bytes, long) (command_front command.len command.changes (omega (arith, command.four, command.short))) in
     record {
-      answer = rw body at c.write-framed.ensures.answer;
-      after = rw body at c.write-framed.ensures.after;
+      answer = rw body at c.write_framed.ensures.answer;
+      after = rw body at c.write_framed.ensures.after;
       fits = changes_fit-take command.len command.changes c.slots-slots.ensures.fits;
     }

@@ -6,9 +6,9 @@ use Rattle.records.proofs.entries.write_mark.Goals as goal
 
 pub returns : goal.returns
 returns c =
-    let body : c.to-le-bytes.result ≡ le 4 c.args.point = search (rules, le_4) in
+    let body : c.to_le_bytes.result ≡ le 4 c.args.point = search (rules, le_4) in
     record {
-      answer = rw body at c.write-framed.ensures.answer;
-      after = rw body at c.write-framed.ensures.after;
+      answer = rw body at c.write_framed.ensures.answer;
+      after = rw body at c.write_framed.ensures.after;
       fits = lt-ltb c.args.point (256 ^ 4) c.ranges.point.fits;
     }

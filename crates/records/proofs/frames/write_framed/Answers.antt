@@ -13,8 +13,8 @@ pub returns : goal.returns
 returns c =
     let body = c.args.body.now in
     let fit = framed_fit c.args.kind body c.args.out.now c.if-out-len.false in
-    let len : c.copy-from-slice.new.self ≡ le 2 (4 + length body) = search (rules, le_2) in
-    let kind : c.copy-from-slice-2.new.self ≡ le 2 c.args.kind = search (rules, le_2) in
-    let rest : c.copy-from-slice-3.new.self ≡ body = search rules in
+    let len : c.copy_from_slice.new.self ≡ le 2 (4 + length body) = search (rules, le_2) in
+    let kind : c.copy_from_slice-2.new.self ≡ le 2 c.args.kind = search (rules, le_2) in
+    let rest : c.copy_from_slice-3.new.self ≡ body = search rules in
     let back : 4 + length body - 4 ≡ length body = omega arith in
     record { answer = sym fit.0; after = rw (len, kind, rest, back) (sym fit.1) }

@@ -5,20 +5,20 @@ use Rattle.records.proofs.Framed.{read_none, read_some, one_reading}
 use Rattle.records.proofs.HeadBytes.{head-lawful}
 use Rattle.records.proofs.images.read_head.Goals as goal
 
-pub returns-in-err-len : goal.returns-in-err-len
-returns-in-err-len c =
+pub returns-in_err-len : goal.returns-in_err-len
+returns-in_err-len c =
     let bs = c.args.bytes.now in
-    let read = c.from-residual.ensures ∙ read_none head_record bs c.in-err-len.ensures in
-    record { answer = read; one = one_reading head_record bs head-lawful (bytes_typed bs c.type-inv.bytes) _ read }
+    let read = c.from_residual.ensures ∙ read_none head_record bs c.in_err-len.ensures in
+    record { answer = read; one = one_reading head_record bs head-lawful (bytes_typed bs c.type_inv.bytes) _ read }
 
-pub returns-in-err-head : goal.returns-in-err-head
-returns-in-err-head c =
+pub returns-in_err-head : goal.returns-in_err-head
+returns-in_err-head c =
     let bs = c.args.bytes.now in
-    let read = c.from-residual-in-err-head.ensures ∙ read_some head_record bs c.in-ok-len.len None c.in-ok-len.ensures c.in-err-head.ensures in
-    record { answer = read; one = one_reading head_record bs head-lawful (bytes_typed bs c.type-inv.bytes) _ read }
+    let read = c.from_residual-in_err-head.ensures ∙ read_some head_record bs c.in_ok-len.len None c.in_ok-len.ensures c.in_err-head.ensures in
+    record { answer = read; one = one_reading head_record bs head-lawful (bytes_typed bs c.type_inv.bytes) _ read }
 
 pub returns : goal.returns
 returns c =
     let bs = c.args.bytes.now in
-    let read = read_some head_record bs c.in-ok-len.len (Some c.in-ok-head.head) c.in-ok-len.ensures c.in-ok-head.ensures in
-    record { answer = read; one = one_reading head_record bs head-lawful (bytes_typed bs c.type-inv.bytes) _ read }
+    let read = read_some head_record bs c.in_ok-len.len (Some c.in_ok-head.head) c.in_ok-len.ensures c.in_ok-head.ensures in
+    record { answer = read; one = one_reading head_record bs head-lawful (bytes_typed bs c.type_inv.bytes) _ read }

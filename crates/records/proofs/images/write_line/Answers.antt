@@ -12,12 +12,12 @@ returns g c =
     let n = c.args.number in
     let x = c.args.line.now in
     let zeros : List ℕ = replicate 26 0 in
-    let number : c.copy-from-slice.new.self ≡ le 2 n = search (rules, le_2) in
+    let number : c.copy_from_slice.new.self ≡ le 2 n = search (rules, le_2) in
     let long : 2 + c.width.result - 0 ≡ 2 + f.width = omega (arith, c.width.ensures) in
-    let body : take (2 + c.width.result - 0) (put_mid 2 26 (c.copy-from-slice.new.self ++ zeros) c.write-payload.new.out) ≡ le 2 n ++ f.payload x =
-    rw (c.write-payload.ensures.after, number, long) (line_written f g.met.C.Coded.lawful n x zeros refl) in
+    let body : take (2 + c.width.result - 0) (put_mid 2 26 (c.copy_from_slice.new.self ++ zeros) c.write_payload.new.out) ≡ le 2 n ++ f.payload x =
+    rw (c.write_payload.ensures.after, number, long) (line_written f g.met.C.Coded.lawful n x zeros refl) in
     record {
-      answer = rw body at c.write-framed.ensures.answer;
-      after = rw body at c.write-framed.ensures.after;
+      answer = rw body at c.write_framed.ensures.answer;
+      after = rw body at c.write_framed.ensures.after;
       fits = rw (lt-ltb n (2 ^ 16) c.ranges.number.fits);
     }

@@ -3,12 +3,12 @@ use Rattle.std.proofs.lemmas.List.{take_rest}
 use Rattle.std.proofs.lemmas.Bool.{eq-eqb}
 use Rattle.words.proofs.decimal.signed_number.Goals as goal
 
-pub returns-in-err-n : goal.returns-in-err-n
-returns-in-err-n c =
-    let none = rw take_rest at c.in-err-n.ensures in
-    rw (c.from-residual.ensures, eq-eqb _ 45 c.if-word-eq45.true, ← none)
+pub returns-in_err-n : goal.returns-in_err-n
+returns-in_err-n c =
+    let none = rw take_rest at c.in_err-n.ensures in
+    rw (c.from_residual.ensures, eq-eqb _ 45 c.if-word-eq45.true, ← none)
 
 pub returns-then-word-eq45 : goal.returns-then-word-eq45
 returns-then-word-eq45 c =
-    let some = rw take_rest at c.in-ok-n.ensures in
-    c.below-zero.ensures ∙ rw (eq-eqb _ 45 c.if-word-eq45.true, ← some)
+    let some = rw take_rest at c.in_ok-n.ensures in
+    c.below_zero.ensures ∙ rw (eq-eqb _ 45 c.if-word-eq45.true, ← some)

@@ -15,4 +15,4 @@ loop-i-preserved c = uncut_more c.args.mark c.args.bytes.now c.loop-i.i c.loop-i
 pub returns : goal.returns
 returns c =
     let cut = cut_nowhere c.args.mark c.args.bytes.now c.loop-i.i c.loop-i.invariant c.loop-i-test.false in
-    record { front = c.split-at.ensures.front ∙ cut.0; back = c.split-at.ensures.back ∙ cut.1; shorter = λ h. rw (c.split-at.ensures.back, cut.1) (beyond_shorter c.args.mark c.args.bytes.now h) }
+    record { front = c.split_at.ensures.front ∙ cut.0; back = c.split_at.ensures.back ∙ cut.1; shorter = λ h. rw (c.split_at.ensures.back, cut.1) (beyond_shorter c.args.mark c.args.bytes.now h) }

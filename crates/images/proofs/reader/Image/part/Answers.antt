@@ -20,5 +20,5 @@ pub returns : goal.returns
 returns g c =
     let f = g.C.Coded.coding in
     let bs = c.args.self.bytes.now in
-    let found = part_found f bs c.args.self.count c.args.k c.width-len.result c.in-ok-read-u16.field-0 c.width-len.ensures c.if-k-self.false c.if-self-at.false c.in-ok-read-u16.ensures in
+    let found = part_found f bs c.args.self.count c.args.k c.width-len.result c.in_ok-read_u16.field-0 c.width-len.ensures c.if-k-self.false c.if-self-at.false c.in_ok-read_u16.ensures in
     record { answer = found; lawful = hands_part f g.met.C.Coded.lawful bs c.args.self.count c.args.k _ found }

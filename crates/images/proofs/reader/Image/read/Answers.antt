@@ -5,29 +5,29 @@ use Rattle.images.proofs.Outlines.{no_head, not_allowed, allowed}
 use Rattle.images.proofs.Refused.{one_image}
 use Rattle.images.proofs.reader.Image.read.Goals as goal
 
-pub returns-in-default : goal.returns-in-default
-returns-in-default g c =
+pub returns-in_default : goal.returns-in_default
+returns-in_default g c =
     let f = g.C.Coded.coding in
     let bs = c.args.bytes.now in
-    record { answer = no_head f bs c.in-default.ensures.answer; one = one_image f g.met.C.Coded.lawful bs (bytes_typed bs c.type-inv.bytes) }
+    record { answer = no_head f bs c.in_default.ensures.answer; one = one_image f g.met.C.Coded.lawful bs (bytes_typed bs c.type_inv.bytes) }
 
-pub returns-then-not-head-allowed : goal.returns-then-not-head-allowed
-returns-then-not-head-allowed g c =
+pub returns-then-not-head_allowed : goal.returns-then-not-head_allowed
+returns-then-not-head_allowed g c =
     let f = g.C.Coded.coding in
     let bs = c.args.bytes.now in
     record {
-      answer = not_allowed f bs c.in-Some.head c.in-Some.len c.in-Some.ensures.answer (sym c.if-not-head-allowed.ensures);
-      one = one_image f g.met.C.Coded.lawful bs (bytes_typed bs c.type-inv.bytes);
+      answer = not_allowed f bs c.in-Some.head c.in-Some.len c.in-Some.ensures.answer (sym c.if-not-head_allowed.ensures);
+      one = one_image f g.met.C.Coded.lawful bs (bytes_typed bs c.type_inv.bytes);
     }
 
-pub returns-in-err-count : goal.returns-in-err-count
-returns-in-err-count g c =
+pub returns-in_err-count : goal.returns-in_err-count
+returns-in_err-count g c =
     let f = g.C.Coded.coding in
     let bs = c.args.bytes.now in
-    let fault = err_from_is_err_and c.from-residual.result c.from-residual.ensures.1 in
+    let fault = err_from_is_err_and c.from_residual.result c.from_residual.ensures.1 in
     record {
-      answer = rw (fault.1, fault.2) (allowed f bs c.in-Some.head c.in-Some.len c.in-Some.ensures.answer (sym c.if-not-head-allowed.ensures) _ c.in-err-count.ensures);
-      one = one_image f g.met.C.Coded.lawful bs (bytes_typed bs c.type-inv.bytes);
+      answer = rw (fault.1, fault.2) (allowed f bs c.in-Some.head c.in-Some.len c.in-Some.ensures.answer (sym c.if-not-head_allowed.ensures) _ c.in_err-count.ensures);
+      one = one_image f g.met.C.Coded.lawful bs (bytes_typed bs c.type_inv.bytes);
     }
 
 pub returns : goal.returns
@@ -35,6 +35,6 @@ returns g c =
     let f = g.C.Coded.coding in
     let bs = c.args.bytes.now in
     record {
-      answer = allowed f bs c.in-Some.head c.in-Some.len c.in-Some.ensures.answer (sym c.if-not-head-allowed.ensures) _ c.in-ok-count.ensures;
-      one = one_image f g.met.C.Coded.lawful bs (bytes_typed bs c.type-inv.bytes);
+      answer = allowed f bs c.in-Some.head c.in-Some.len c.in-Some.ensures.answer (sym c.if-not-head_allowed.ensures) _ c.in_ok-count.ensures;
+      one = one_image f g.met.C.Coded.lawful bs (bytes_typed bs c.type_inv.bytes);
     }

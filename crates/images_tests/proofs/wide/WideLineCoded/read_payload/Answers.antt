@@ -14,16 +14,16 @@ returns-then-bytes-ne26 c =
 pub returns : goal.returns
 returns c =
     let bs = c.args.bytes.now in
-    let whole = payload-decoded bs (bytes_typed bs c.type-inv.bytes) c.if-bytes-ne26.false in
-    let first : number (take 8 bs) ≡ c.in-ok-first.first = whole_some 8 (take 8 bs) _ c.in-ok-first.ensures in
-    let second : number (take 8 (drop 8 bs)) ≡ c.in-ok-second.second = whole_some 8 (take 8 (drop 8 bs)) _ c.in-ok-second.ensures in
-    let third : number (take 8 (drop 16 bs)) ≡ c.in-ok-third.third = whole_some 8 (take 8 (drop 16 bs)) _ c.in-ok-third.ensures in
-    let fourth : number (take 2 (drop 24 bs)) ≡ c.in-ok-fourth.fourth = whole_some 2 (take 2 (drop 24 bs)) _ c.in-ok-fourth.ensures in
+    let whole = payload-decoded bs (bytes_typed bs c.type_inv.bytes) c.if-bytes-ne26.false in
+    let first : number (take 8 bs) ≡ c.in_ok-first.first = whole_some 8 (take 8 bs) _ c.in_ok-first.ensures in
+    let second : number (take 8 (drop 8 bs)) ≡ c.in_ok-second.second = whole_some 8 (take 8 (drop 8 bs)) _ c.in_ok-second.ensures in
+    let third : number (take 8 (drop 16 bs)) ≡ c.in_ok-third.third = whole_some 8 (take 8 (drop 16 bs)) _ c.in_ok-third.ensures in
+    let fourth : number (take 2 (drop 24 bs)) ≡ c.in_ok-fourth.fourth = whole_some 2 (take 2 (drop 24 bs)) _ c.in_ok-fourth.ensures in
     let read : decoded bs ≡ record {
-      first = c.in-ok-first.first;
-      second = c.in-ok-second.second;
-      third = c.in-ok-third.third;
-      fourth = c.in-ok-fourth.fourth;
+      first = c.in_ok-first.first;
+      second = c.in_ok-second.second;
+      third = c.in_ok-third.third;
+      fourth = c.in_ok-fourth.fourth;
     }
     = rw (first, second, third, fourth) in
     search (rules, read_kept decoded keeps payload bs _ whole read)

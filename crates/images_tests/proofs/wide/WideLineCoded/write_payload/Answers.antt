@@ -16,8 +16,8 @@ pub returns : goal.returns
 returns c =
     let w = c.args.self.now in
     let put = written w c.args.out.now c.if-out-lt26.false in
-    let first : c.copy-from-slice.new.self ≡ le 8 w.first = search (rules, le_8) in
-    let second : c.copy-from-slice-2.new.self ≡ le 8 w.second = search (rules, le_8) in
-    let third : c.copy-from-slice-3.new.self ≡ le 8 w.third = search (rules, le_8) in
-    let fourth : c.copy-from-slice-4.new.self ≡ le 2 w.fourth = search (rules, le_2) in
+    let first : c.copy_from_slice.new.self ≡ le 8 w.first = search (rules, le_8) in
+    let second : c.copy_from_slice-2.new.self ≡ le 8 w.second = search (rules, le_8) in
+    let third : c.copy_from_slice-3.new.self ≡ le 8 w.third = search (rules, le_8) in
+    let fourth : c.copy_from_slice-4.new.self ≡ le 2 w.fourth = search (rules, le_2) in
     record { answer = sym put.0; after = rw (first, second, third, fourth) (sym put.1) }

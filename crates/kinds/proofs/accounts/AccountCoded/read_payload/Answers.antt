@@ -16,9 +16,9 @@ returns-then-bytes-ne12 c =
 pub returns : goal.returns
 returns c =
     let bs = c.args.bytes.now in
-    let whole = payload-decoded bs (bytes_typed bs c.type-inv.bytes) c.if-bytes-ne12.false in
-    let balance : number (take 8 bs) ≡ c.in-ok-read-u64.field-0 = whole_some 8 (take 8 bs) _ c.in-ok-read-u64.ensures in
+    let whole = payload-decoded bs (bytes_typed bs c.type_inv.bytes) c.if-bytes-ne12.false in
+    let balance : number (take 8 bs) ≡ c.in_ok-read_u64.field-0 = whole_some 8 (take 8 bs) _ c.in_ok-read_u64.ensures in
     let rest : take 4 (drop 8 bs) ≡ drop 8 bs = take_all 4 (drop 8 bs) (simp length-drop (omega arith)) in
-    let limit : number (drop 8 bs) ≡ c.in-ok-limit.limit = rw rest at (whole_some 4 (take 4 (drop 8 bs)) _ c.in-ok-limit.ensures) in
-    let read : decoded bs ≡ record { balance = c.cast-signed-balance.result; limit = c.in-ok-limit.limit } = rw (balance, limit, c.cast-signed-balance.ensures) in
+    let limit : number (drop 8 bs) ≡ c.in_ok-limit.limit = rw rest at (whole_some 4 (take 4 (drop 8 bs)) _ c.in_ok-limit.ensures) in
+    let read : decoded bs ≡ record { balance = c.cast_signed-balance.result; limit = c.in_ok-limit.limit } = rw (balance, limit, c.cast_signed-balance.ensures) in
     search (rules, read_kept decoded keeps payload bs _ whole read)

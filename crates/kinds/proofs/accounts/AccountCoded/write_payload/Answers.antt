@@ -12,6 +12,6 @@ returns-then-out-lt12 c =
 pub returns : goal.returns
 returns c =
     let fit = two_fit 8 4 (of_z w64 c.args.self.now.balance) c.args.self.now.limit c.args.out.now c.if-out-lt12.false in
-    let balance : c.copy-from-slice.new.self ≡ le 8 (of_z w64 c.args.self.now.balance) = search (rules, le_8) in
-    let limit : c.copy-from-slice-2.new.self ≡ le 4 c.args.self.now.limit = search (rules, le_4) in
+    let balance : c.copy_from_slice.new.self ≡ le 8 (of_z w64 c.args.self.now.balance) = search (rules, le_8) in
+    let limit : c.copy_from_slice-2.new.self ≡ le 4 c.args.self.now.limit = search (rules, le_4) in
     record { answer = sym fit.0; after = rw (balance, limit) (sym fit.1) }

@@ -15,9 +15,9 @@ returns-then-bytes-ne8 c =
 pub returns : goal.returns
 returns c =
     let bs = c.args.bytes.now in
-    let whole = two_again 4 4 bs (bytes_typed bs c.type-inv.bytes) c.if-bytes-ne8.false in
-    let on-hand : number (take 4 bs) ≡ c.in-ok-on-hand.on-hand = whole_some 4 (take 4 bs) _ c.in-ok-on-hand.ensures in
+    let whole = two_again 4 4 bs (bytes_typed bs c.type_inv.bytes) c.if-bytes-ne8.false in
+    let on_hand : number (take 4 bs) ≡ c.in_ok-on_hand.on_hand = whole_some 4 (take 4 bs) _ c.in_ok-on_hand.ensures in
     let rest : take 4 (drop 4 bs) ≡ drop 4 bs = take_all 4 (drop 4 bs) (simp length-drop (omega arith)) in
-    let reserved : number (drop 4 bs) ≡ c.in-ok-reserved.reserved = rw rest at (whole_some 4 (take 4 (drop 4 bs)) _ c.in-ok-reserved.ensures) in
-    let read : decoded bs ≡ record { on_hand = c.in-ok-on-hand.on-hand; reserved = c.in-ok-reserved.reserved } = rw (on-hand, reserved) in
+    let reserved : number (drop 4 bs) ≡ c.in_ok-reserved.reserved = rw rest at (whole_some 4 (take 4 (drop 4 bs)) _ c.in_ok-reserved.ensures) in
+    let read : decoded bs ≡ record { on_hand = c.in_ok-on_hand.on_hand; reserved = c.in_ok-reserved.reserved } = rw (on_hand, reserved) in
     search (rules, read_kept decoded keeps payload bs _ whole read)

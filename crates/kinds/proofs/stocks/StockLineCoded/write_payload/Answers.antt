@@ -14,6 +14,6 @@ pub returns : goal.returns
 returns c =
     let s = c.args.self.now in
     let fit = two_fit 4 4 s.on_hand s.reserved c.args.out.now c.if-out-lt8.false in
-    let on-hand : c.copy-from-slice.new.self ≡ le 4 s.on_hand = search (rules, le_4) in
-    let reserved : c.copy-from-slice-2.new.self ≡ le 4 s.reserved = search (rules, le_4) in
-    record { answer = sym fit.0; after = rw (on-hand, reserved) (sym fit.1) }
+    let on_hand : c.copy_from_slice.new.self ≡ le 4 s.on_hand = search (rules, le_4) in
+    let reserved : c.copy_from_slice-2.new.self ≡ le 4 s.reserved = search (rules, le_4) in
+    record { answer = sym fit.0; after = rw (on_hand, reserved) (sym fit.1) }

@@ -16,7 +16,7 @@ loop-i-preserved c =
     let bs = c.args.bytes.now in
     let i = c.loop-i.i in
     let few : i < 4 = omega arith in
-    command_step bs i (changes_of c.loop-i.command) _ c.in-ok-change.change few c.loop-i.invariant c.push.ensures.after c.in-ok-change.ensures
+    command_step bs i (changes_of c.loop-i.command) _ c.in_ok-change.change few c.loop-i.invariant c.push.ensures.after c.in_ok-change.ensures
 
 pub returns : goal.returns
 returns c =

@@ -11,6 +11,6 @@ returns c =
     let x = c.args.change in
     let small : (x.line < 2 ^ 16) × (x.kind < 256) × (x.amount < 2 ^ 32) = search rules in
     record {
-      bytes = rw (c.copy-from-slice.ensures.after, c.copy-from-slice-2.ensures.after, c.to-le-bytes.ensures, c.to-le-bytes-2.ensures, le_1 x.kind small.1, le_2 x.line, le_4 x.amount);
+      bytes = rw (c.copy_from_slice.ensures.after, c.copy_from_slice-2.ensures.after, c.to_le_bytes.ensures, c.to_le_bytes-2.ensures, le_1 x.kind small.1, le_2 x.line, le_4 x.amount);
       fits = grind (arith, nat_tests);
     }

@@ -8,6 +8,6 @@ use Rattle.records.proofs.commands.bodies.change_in.Goals as goal
 pub returns : goal.returns
 returns c =
     let bs = c.args.bytes.now in
-    let line : field 0 2 bs ≡ c.in-ok-read-u16.field-0 = whole_some 2 (take 2 bs) _ c.in-ok-read-u16.ensures in
-    let amount : field 3 4 bs ≡ c.in-ok-read-u32.field-0 = whole_some 4 (take 4 (drop 3 bs)) _ c.in-ok-read-u32.ensures in
+    let line : field 0 2 bs ≡ c.in_ok-read_u16.field-0 = whole_some 2 (take 2 bs) _ c.in_ok-read_u16.ensures in
+    let amount : field 3 4 bs ≡ c.in_ok-read_u32.field-0 = whole_some 4 (take 4 (drop 3 bs)) _ c.in_ok-read_u32.ensures in
     rw (eq-eqb (length bs) 7 c.if-bytes-ne7.false, line, field_1 2 bs, amount)

@@ -12,4 +12,4 @@ returns c =
     let small : h.code < 256 = search rules in
     let code = le_1 h.code small in
     let mode = le_1 (mode_code h.mode) (mode_small h.mode) in
-    rw (c.code.ensures, c.copy-from-slice.ensures.after, c.copy-from-slice-2.ensures.after, c.copy-from-slice-3.ensures.after, c.to-le-bytes.ensures, c.to-le-bytes-2.ensures, c.to-le-bytes-3.ensures, code, mode, le_2 h.n, le_4 h.from, le_4 h.point)
+    rw (c.code.ensures, c.copy_from_slice.ensures.after, c.copy_from_slice-2.ensures.after, c.copy_from_slice-3.ensures.after, c.to_le_bytes.ensures, c.to_le_bytes-2.ensures, c.to_le_bytes-3.ensures, code, mode, le_2 h.n, le_4 h.from, le_4 h.point)

@@ -12,8 +12,8 @@ returns-in-Ok g c =
     let there = found_cell _ _ _ c.in-Ok.ensures in
     let altered = alter-set (ended_cell g.R.Rules.method c.args.end t.clock c.args.seat c.args.began) t.cells c.args.line _ there in
     record {
-      state = c.put-cell.ensures.state ∙ ap (λ x. with_cells (set t.cells c.args.line x) t) c.ended-cell-cell.ensures ∙ ap (λ cells. with_cells cells t) (sym altered);
-      spare = c.put-cell.ensures.spare;
+      state = c.put_cell.ensures.state ∙ ap (λ x. with_cells (set t.cells c.args.line x) t) c.ended_cell-cell.ensures ∙ ap (λ cells. with_cells cells t) (sym altered);
+      spare = c.put_cell.ensures.spare;
     }
 
 pub returns-in-Err : goal.returns-in-Err

@@ -5,9 +5,9 @@ use Rattle.logs.specs.RecordRuns.{entry_bytes, byte_cost}
 use Rattle.logs.proofs.Appending.{cost_most, in_buffer, no_buffer, count_few, append_full, append-room, append-sound}
 use Rattle.logs.proofs.byte_log.calls.ByteLogLog.append.Goals as goal
 
-pub returns-in-default : goal.returns-in-default
-returns-in-default c =
-    let wrote = c.in-default.ensures in
+pub returns-in_default : goal.returns-in_default
+returns-in_default c =
+    let wrote = c.in_default.ensures in
     absurd (no_buffer (entry_bytes c.args.entry) (replicate 32 0) wrote.answer (cost_most c.args.entry wrote.fits))
 
 pub returns-then-len-room : goal.returns-then-len-room

@@ -8,7 +8,7 @@ pub returns : goal.returns
 returns g c =
     let m = g.R.Rules.method in
     record {
-      valid = subst (Valid m g.R.Rules.sound g.row.R-Line-Line.changed) (sym c.open-over.ensures.state) (valid_new m g.R.Rules.sound g.met.R.Rules.lawful g.row.R-Line-Line.changed _);
-      state = ap (meaning m) c.open-over.ensures.state ∙ meaning-new m g.R.Rules.sound g.met.R.Rules.lawful g.row.R-Line-Line.changed _;
-      spare = c.open-over.ensures.spare;
+      valid = subst (Valid m g.R.Rules.sound g.row.R-Line-Line.changed) (sym c.open_over.ensures.state) (valid_new m g.R.Rules.sound g.met.R.Rules.lawful g.row.R-Line-Line.changed _);
+      state = ap (meaning m) c.open_over.ensures.state ∙ meaning-new m g.R.Rules.sound g.met.R.Rules.lawful g.row.R-Line-Line.changed _;
+      spare = c.open_over.ensures.spare;
     }

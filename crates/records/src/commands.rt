@@ -1,9 +1,9 @@
 // A command: at most four changes, by value.
-ghost use Rattle.std.specs.Prelude.{◌≡◌, ◌-◌, ◌≤◌, length, drop, replicate, Decides};
-ghost use Rattle.records.specs.Changes.{no_change};
-ghost use Rattle.std.specs.Cmp.Rules.{comparing};
-ghost use Rattle.std.proofs.Common.{rules, arith};
-ghost use Rattle.std.specs.Cmp as Keys;
+ghost use Rattle.std.specs.Prelude.{◌≡◌, ◌-◌, ◌≤◌, length, drop, replicate, Decides, nat_eq, ◌&&◌};
+ghost use Rattle.records.specs.Changes.{no_change, same_change, same_change_equiv};
+ghost use Rattle.std.specs.Cmp.{partial_equiv_from_equiv, and_equiv, on_equiv, nat_eq_equiv};
+ghost use Rattle.std.specs.Ordering.{on, eq_of_both};
+ghost use Rattle.std.specs.Cmp.Lexicographic.{pointwise, lists_equiv};
 
 use lines::changes::Change;
 
@@ -21,15 +21,18 @@ pub struct Command {
 }
 
 impl PartialEq for Command {
-    ghost equals = { λ c d r. Decides r (c ≡ d) };
+    ghost eq = { eq_of_both (on (λ c. c.len) nat_eq) (on (λ c. c.changes) (pointwise same_change)) };
 
-    ghost laws = { Keys.partial_equiv_from_equiv (first_of (Prim.search (comparing, rules), Prim.grind (arith, Self.row.coded.inj))) };
+    ghost laws = { partial_equiv_from_equiv (and_equiv (on_equiv (λ c. c.len) nat_eq_equiv) (on_equiv (λ c. c.changes) (lists_equiv same_change_equiv))) };
 
-    fn eq(&self, other: &Command) -> bool {
+    fn eq(&self, other: &Command) -> bool
+        ensures value { result ≡ (nat_eq self.now.len other.now.len && pointwise same_change self.now.changes other.now.changes) }
+        ensures decides { Decides result (self.now ≡ other.now) }
+    {
         self.len == other.len && self.changes == other.changes
     }
 }
 
 impl Eq for Command {
-    ghost laws = { first_of (Prim.search (comparing, rules), Prim.grind (arith, Self.row.coded.inj)) };
+    ghost laws = { and_equiv (on_equiv (λ c. c.len) nat_eq_equiv) (on_equiv (λ c. c.changes) (lists_equiv same_change_equiv)) };
 }

@@ -14,8 +14,8 @@ returns-then-out-size g c =
     too_short f a b c.args.earlier c.args.later ra rb c.args.out.now fit _ size c.if-out-size.true in
     record { answer = λ a b ra rb. (short a b ra rb).0; after = λ a b ra rb. (short a b ra rb).1 }
 
-pub overflow-cast-count : goal.overflow-cast-count
-overflow-cast-count g c =
+pub overflow_cast-count : goal.overflow_cast-count
+overflow_cast-count g c =
     let f = g.C.Coded.coding in
     let s = c.requires in
     let fit : joins s.old s.new ≡ true = sym (same_heads f s.old s.new c.args.earlier c.args.later s.read_old s.read_new c.args.out.now) ∙ sym c.if-not-heads_join.ensures in

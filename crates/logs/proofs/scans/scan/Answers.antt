@@ -5,8 +5,8 @@ use Rattle.logs.specs.RecordRuns.{entries_in, byte_cost}
 use Rattle.logs.proofs.Runs.{step, step_none, run}
 use Rattle.logs.proofs.scans.scan.Goals as goal
 
-pub overflow-add-len : goal.overflow-add-len
-overflow-add-len c = let s = step c.args.bytes.now c.loop-found.len c.in-Some.found (bytes_typed c.args.bytes.now c.type_inv.bytes) c.loop-found.invariant.0 c.in-Some.ensures in search rules
+pub overflow_add-len : goal.overflow_add-len
+overflow_add-len c = let s = step c.args.bytes.now c.loop-found.len c.in-Some.found (bytes_typed c.args.bytes.now c.type_inv.bytes) c.loop-found.invariant.0 c.in-Some.ensures in search rules
 
 pub loop-found-smaller : goal.loop-found-smaller
 loop-found-smaller c = let s = step c.args.bytes.now c.loop-found.len c.in-Some.found (bytes_typed c.args.bytes.now c.type_inv.bytes) c.loop-found.invariant.0 c.in-Some.ensures in omega arith

@@ -4,8 +4,8 @@ use Rattle.logs.specs.ByteLogs.{byte_capacity}
 use Rattle.logs.proofs.ByteRuns.{front}
 use Rattle.logs.proofs.byte_log.ByteLog.open.Goals as goal
 
-pub invariant-of-result : goal.invariant-of-result
-invariant-of-result c =
+pub invariant_of-result : goal.invariant_of-result
+invariant_of-result c =
     let m = c.args.memory.now in
     let end : c.cut.result ≡ min c.args.u (byte_capacity m) = c.cut.ensures in
     let run = front m c.cut.result (rw sub-zero at c.scan-run.ensures.longest) in

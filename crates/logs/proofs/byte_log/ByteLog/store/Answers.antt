@@ -6,8 +6,8 @@ use Rattle.logs.proofs.byte_log.ByteLog.store.Goals as goal
 pub loop-k-init : goal.loop-k-init
 loop-k-init c = (overwritten_none c.args.self.now.memory.now c.args.self.now.used c.args.self.now.inside, refl, refl)
 
-pub invariant-of-self : goal.invariant-of-self
-invariant-of-self c =
+pub invariant_of-self : goal.invariant_of-self
+invariant_of-self c =
     let now = c.loop-k.self in
     let at = c.args.self.now.used + c.loop-k.k in
     let b = get_or c.args.bytes.now c.loop-k.k 0 in

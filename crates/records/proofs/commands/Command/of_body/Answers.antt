@@ -3,11 +3,11 @@ use Rattle.records.specs.Commands.{changes_of, command_with}
 use Rattle.records.proofs.ChangeBytes.{command_refused, command-read, command_step}
 use Rattle.records.proofs.CommandValues.{command_is}
 use Rattle.records.proofs.commands.Command.of_body.Goals as goal
-use Rattle.records.proofs.commands.Command.of_body.Goals.{then_bytes_gt_LONGEST_via_then_bytes_gt_LONGEST, then-bytes-gt-LONGEST-via-else-bytes-gt-LONGEST+then-bytes-ne0}
+use Rattle.records.proofs.commands.Command.of_body.Goals.{then-bytes-gt-LONGEST-via-then-bytes-gt-LONGEST, then-bytes-gt-LONGEST-via-else-bytes-gt-LONGEST+then-bytes-ne0}
 
 pub returns-then-bytes-gt-LONGEST : goal.returns-then-bytes-gt-LONGEST
 returns-then-bytes-gt-LONGEST c = elim c.then-bytes-gt-LONGEST.branch [
-  | then_bytes_gt_LONGEST_via_then_bytes_gt_LONGEST w ↦ ap command_with (command_refused c.args.bytes.now (inl w.if-bytes-gt-LONGEST.true))
+  | then-bytes-gt-LONGEST-via-then-bytes-gt-LONGEST w ↦ ap command_with (command_refused c.args.bytes.now (inl w.if-bytes-gt-LONGEST.true))
   | then-bytes-gt-LONGEST-via-else-bytes-gt-LONGEST+then-bytes-ne0 w ↦ ap command_with (command_refused c.args.bytes.now (inr w.if-bytes-ne0.true))
 ]
 

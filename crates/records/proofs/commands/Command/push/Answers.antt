@@ -5,10 +5,10 @@ use Rattle.records.specs.Commands.{changes_of}
 use Rattle.records.proofs.CommandValues.{length-changes, push_padded, push_changes}
 use Rattle.records.proofs.commands.Command.push.Goals as goal
 
-pub invariant-of-self : goal.invariant-of-self
-invariant-of-self c =
+pub invariant_of-self : goal.invariant_of-self
+invariant_of-self c =
     let command = c.args.self.now in
-    (simp length-set command.four, (omega arith, (push_padded command c.args.change c.if-self-ge-MOST.false, tt)))
+    record { four = simp length-set command.four; short = omega arith; padded = push_padded command c.args.change c.if-self-ge-MOST.false }
 
 pub returns : goal.returns
 returns c =

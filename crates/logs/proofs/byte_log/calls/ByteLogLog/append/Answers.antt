@@ -18,15 +18,15 @@ returns-then-len-room c =
     let full = append_full log.memory.now log.used log.count log.inside log.whole log.counted c.args.entry (omega (arith, size, c.cut.ensures)) in
     record { answer = sym full.0; state = sym full.1; same = refl; memory = refl }
 
-pub overflow-add-self-2 : goal.overflow-add-self-2
-overflow-add-self-2 c =
+pub overflow_add-self-2 : goal.overflow_add-self-2
+overflow_add-self-2 c =
     let log = c.args.self.now in
     let few = count_few log.memory.now log.used log.count log.inside log.whole log.counted c.args.entry in
     let small : c.store.new.self.count + 1 ≤ 65537 = omega (arith, log.few, c.store.ensures.count) in
     search rules
 
-pub invariant-of-self : goal.invariant-of-self
-invariant-of-self c =
+pub invariant_of-self : goal.invariant_of-self
+invariant_of-self c =
     let log = c.args.self.now in
     let e = c.args.entry in
     let wrote = c.in-Some.ensures in

@@ -2,9 +2,9 @@ use Rattle.std.proofs.Common.{refl, arith}
 use Rattle.logs.specs.RecordRuns.{entries_in}
 use Rattle.logs.proofs.byte_log.calls.ByteLogLog.empty.Goals as goal
 
-pub invariant-of-self : goal.invariant-of-self
+pub invariant_of-self : goal.invariant_of-self
 unfolding entries_in
-invariant-of-self c = (omega arith, (omega arith, (refl, (refl, tt))))
+invariant_of-self c = (omega arith, (omega arith, (refl, (refl, tt))))
 
 pub returns : goal.returns
 unfolding entries_in

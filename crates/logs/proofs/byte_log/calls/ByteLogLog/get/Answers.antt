@@ -9,8 +9,8 @@ returns-in_err-skipped c =
     let log = c.args.self.now in
     rw c.from_residual.ensures (seek_none (take log.used log.memory.now) c.loop-k.at c.args.i c.loop-k.-k c.loop-k.invariant.1 c.in_err-skipped.ensures)
 
-pub overflow-add-at : goal.overflow-add-at
-overflow-add-at c =
+pub overflow_add-at : goal.overflow_add-at
+overflow_add-at c =
     let log = c.args.self.now in
     let bs = take log.used log.memory.now in
     let long : length bs ≡ log.used = length-take-le log.used log.memory.now log.inside in

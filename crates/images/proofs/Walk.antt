@@ -12,7 +12,7 @@ use Rattle.records.specs.ImageLines.{line_record}
 use Rattle.records.specs.Numbers.{end_record}
 use Rattle.records.proofs.Framed.{found, other_kind}
 use Rattle.images.specs.declared.faults.Unlawful.{Unlawful}
-use Rattle.images.specs.Reading.{unlawful, follows, in_turn, no_lines, end_of, before, counted, lines_from}
+use Rattle.images.specs.Reading.{unlawful, follows, in_turn, no_lines, end_of, before, lines_from}
 
 -- a line in its turn is below n and not below the number behind the last one
 least : (m : Mode) (low i : ℕ) → follows m low i ≡ true → low ≤ i

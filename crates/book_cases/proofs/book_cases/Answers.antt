@@ -13,11 +13,11 @@ pub returns : goal.returns
 unfolding le number framed head_body head_in reading writing
 returns c = record {
   run = refl;
-  run-history = refl;
-  run-image = refl;
-  run-no-image = refl;
+  run_history = refl;
+  run_image = refl;
+  run_no_image = refl;
   image_head = c.head_of_empty.ensures;
   image_end = c.end_of_empty.ensures;
   image = rw (c.head_of_empty.ensures, c.end_of_empty.ensures) (sym (writing-parts account empty_book));
-  image-read = rw (c.head_of_empty.ensures, c.end_of_empty.ensures);
+  image_read = rw (c.head_of_empty.ensures, c.end_of_empty.ensures);
 }

@@ -37,7 +37,7 @@ join_images-requires g c =
     let f = g.C.Coded.coding in
     let old = read_as f c.args.earlier.now c.in-Ok.image c.in-Ok.ensures.one (reading f c.args.earlier.now) refl c.in-Ok.ensures.answer in
     let new = read_as f c.args.later.now c.in-Ok-read.image c.in-Ok-read.ensures.one (reading f c.args.later.now) refl c.in-Ok-read.ensures.answer in
-    record { old = old.0; new = new.0; read-old = old.2; read-new = new.2 }
+    record { old = old.0; new = new.0; read_old = old.2; read_new = new.2 }
 
 pub returns : goal.returns
 returns g c =

@@ -11,7 +11,7 @@ invariant_of-result c =
     let run = front m c.cut.result (rw sub-zero at c.scan-run.ensures.longest) in
     let used = rw sub-zero at c.scan-run.ensures.len in
     let count = rw sub-zero at c.scan-run.ensures.count in
-    (omega (arith, run.within), (omega (arith, run.within), (rw (used, run.again, run.whole), (count ∙ ap length (sym (rw used run.again)), tt))))
+    record { inside = omega (arith, run.within); few = omega (arith, run.within); whole = rw (used, run.again, run.whole); counted = count ∙ ap length (sym (rw used run.again)) }
 
 pub returns : goal.returns
 returns c =

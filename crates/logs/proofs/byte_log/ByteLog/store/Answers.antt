@@ -12,7 +12,7 @@ invariant_of-self c =
     let at = c.args.self.now.used + c.loop-k.k in
     let b = get_or c.args.bytes.now c.loop-k.k 0 in
     let same : take now.used (set now.memory.now at b) ≡ take now.used now.memory.now = take-set-le now.used now.memory.now at b (omega (arith, c.loop-k.invariant.1)) in
-    (rw (length-set now.memory.now at b) now.inside, (now.few, (rw same now.whole, (rw same now.counted, tt))))
+    record { inside = rw (length-set now.memory.now at b) now.inside; few = now.few; whole = rw same now.whole; counted = rw same now.counted }
 
 pub loop-k-preserved : goal.loop-k-preserved
 loop-k-preserved c =

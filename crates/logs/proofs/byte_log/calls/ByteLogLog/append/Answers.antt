@@ -1,4 +1,4 @@
-use Rattle.std.proofs.Common.{◌≡◌, ◌+◌, ◌-◌, ◌≤◌, replicate, sym, refl, arith, rules}
+use Rattle.std.proofs.Common.{◌≡◌, ◌+◌, ◌≤◌, replicate, sym, refl, arith, rules}
 use native.Mathlib.Nat.{sub-zero}
 use Rattle.logs.specs.ByteLogs.{overwritten}
 use Rattle.logs.specs.RecordRuns.{entry_bytes, byte_cost}
@@ -34,7 +34,7 @@ invariant_of-self c =
     let after : c.store.new.self.memory.now ≡ overwritten log.memory.now log.used (entry_bytes e) = rw (sub-zero, buffer.1) at c.store.ensures.memory in
     let sound = append-sound log.memory.now log.used log.count log.inside log.whole log.counted e wrote.fits (omega (arith, buffer.0, c.cut.ensures)) c.store.new.self.memory.now after in
     let used : c.store.new.self.used + c.in-Some.len ≡ log.used + byte_cost e = omega (arith, buffer.0, c.store.ensures.used) in
-    (rw used sound.0, (rw used sound.1, (rw used sound.2, (rw (used, c.store.ensures.count) sound.3, tt))))
+    record { inside = rw used sound.0; few = rw used sound.1; whole = rw used sound.2; counted = rw (used, c.store.ensures.count) sound.3 }
 
 pub returns : goal.returns
 returns c =

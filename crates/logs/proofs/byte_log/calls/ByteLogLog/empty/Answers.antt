@@ -4,7 +4,7 @@ use Rattle.logs.proofs.byte_log.calls.ByteLogLog.empty.Goals as goal
 
 pub invariant_of-self : goal.invariant_of-self
 unfolding entries_in
-invariant_of-self c = (omega arith, (omega arith, (refl, (refl, tt))))
+invariant_of-self c = record { inside = omega arith; few = omega arith; whole = refl; counted = refl }
 
 pub returns : goal.returns
 unfolding entries_in

@@ -8,4 +8,4 @@ abbrev pub invariant-loop-k : goal.invariant-loop-k
 invariant-loop-k l =
     let used = take l.self.used l.self.memory.now in
     (l.at ≤ l.self.used)
-    × (slice_get (entries_in (drop l.at used)) (l.i - l.-k) ≡ slice_get (entries_in used) l.i)
+    × (slice_get (entries_in (drop l.at used)) (l.i - l._k) ≡ slice_get (entries_in used) l.i)

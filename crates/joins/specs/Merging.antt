@@ -11,10 +11,7 @@
 --   Sides f a b        both images are
 --   Put bs m at m' r   if memory m has room for bs from the offset at on, they stand there in m', and r is the offset behind them
 use Rattle.std.specs.Prelude.{◌≡◌, ℕ, ◌+◌, ◌≤◌, Bool, cond, ◌&&◌, List, length, Some, None, Option, ◌==◌, nat_lt}
-use Rattle.std.specs.List.{flat_map}
 use Rattle.lines.specs.Bytes.{overwritten}
-use Rattle.records.specs.Framing.{bytes_of}
-use Rattle.records.specs.ImageLines.{line_record}
 use Rattle.lines.specs.Coding.{Coding}
 use Rattle.records.specs.declared.heads.Head.{Head}
 use Rattle.records.specs.declared.image_lines.ImageLine.{ImageLine}

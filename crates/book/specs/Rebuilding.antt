@@ -6,15 +6,11 @@
 --   Replay L             the lines as they then stand, and the refusal at which it stopped, if it did
 --   memory-lines f ls n  the lines of an image in the first n places of memory
 --   rebuilt f g bs es ls the answer, and the memory ls after it
-use Rattle.std.specs.Prelude.{ℕ, suc, Bool, true, false, cond, List, [], ◌∷◌, ◌++◌, map, length, drop, Some, None, Ok, Err, Option, Result, ◌==◌, nat_le}
+use Rattle.std.specs.Prelude.{ℕ, suc, cond, List, [], ◌∷◌, ◌++◌, map, length, drop, Some, None, Ok, Err, Option, Result, ◌==◌, nat_le}
 use Rattle.lines.specs.declared.changes.Change.{Change}
-use Rattle.lines.specs.declared.faults.LineFault.{LineFault}
 use Rattle.lines.specs.Changing.{Outcome}
 use Rattle.lines.specs.Coding.{Coding}
 use Rattle.lines.specs.Numbered.{make}
-use Rattle.records.specs.declared.heads.Mode.{Mode}
-use Rattle.records.specs.declared.heads.Mode.TheVariants.{Full, Partial}
-use Rattle.records.specs.declared.image_lines.ImageLine.{ImageLine}
 use Rattle.records.specs.Commands.{changes_of}
 use Rattle.logs.specs.declared.entries.Entry.{Entry}
 use Rattle.logs.specs.declared.entries.Entry.TheVariants.{Command, Mark}

@@ -67,7 +67,7 @@ pub fn worked_cases() -> WorkedCases
 
 // What a line answers as line 0.
 fn answer<L: Line>(line: L, kind: u8, amount: u32) -> Result<L, LineFault>
-    ensures { result ≡ change changed line (record { line = 0; kind = kind; amount = amount }) }
+    ensures { result ≡ change L.changed line (record { line = 0; kind = kind; amount = amount }) }
 {
     line.change(Change {
         line: 0,

@@ -1,7 +1,7 @@
 -- A book goes where its transcript leads, call by call.
-use Rattle.std.proofs.Common.{◌≡◌, ℕ, zero, suc, ◌<◌, Bool, true, false, cond, not, ◌&&◌, eqb, leb, List, [], ◌∷◌, ◌++◌, length, get_or, set, replicate, is_some, Some, None, Ok, Err, Option, Result, sym, refl, ap, ◌∙◌, inl, inr, arith}
-use Rattle.std.proofs.lemmas.List.{length-set, get_or-set_same, get_or-set_other, get_or-replicate}
-use Rattle.std.proofs.lemmas.Bool.{cases_Bool, eq-eqb, eqb-true, eqb-false, leb-false}
+use Rattle.std.proofs.Common.{◌≡◌, ℕ, zero, suc, ◌<◌, Bool, true, false, cond, not, eqb, leb, List, [], ◌∷◌, ◌++◌, length, get_or, set, replicate, Some, None, Ok, Err, Option, Result, sym, refl, ap, ◌∙◌, inl, inr, arith}
+use Rattle.std.proofs.lemmas.List.{length-set, get_or-set_same, get_or-set_other}
+use Rattle.std.proofs.lemmas.Bool.{cases_Bool, eqb-true, eqb-false, leb-false}
 use Rattle.std.specs.Option.{option_map}
 use Rattle.lines.specs.declared.changes.Change.{Change}
 use Rattle.keepers.specs.declared.faults.KeeperFault.{KeeperFault}
@@ -25,8 +25,8 @@ use Rattle.book.specs.Books.Progress.{nothing, lines_out, all_out}
 use Rattle.book.specs.Faults.{told}
 use Rattle.book.specs.Books.SeatCall.{begin, change, commit, abandon}
 use Rattle.book.specs.Books.Call.{seat, look, call, turn, take}
-use Rattle.book.specs.Books.Answer.{done, line, bytes, refused}
-use Rattle.runs.specs.Events.{Event, accepted, stage, points, hand, in_hand, at_point as transcript_at_point}
+use Rattle.book.specs.Books.Answer.{done, bytes}
+use Rattle.runs.specs.Events.{Event, accepted, hand, in_hand, at_point as transcript_at_point}
 use Rattle.runs.specs.Histories.{history, or_none, with_command}
 use Rattle.runs.specs.Laws.{Follows, Run, LogLaw}
 use Rattle.runs.specs.Laws.Run.{start, then}

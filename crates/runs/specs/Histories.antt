@@ -6,7 +6,7 @@
 --   before q es       the events before the point q, if it was passed
 --   behind q es       what the takes since the point q wrote, in order, if it was passed
 --   image q es        the image of the point q: what they wrote up to and with the end record; none until that is there
-use Rattle.std.specs.Prelude.{ℕ, suc, Bool, true, false, cond, ◌||◌, List, [], ◌∷◌, ◌++◌, is_some, Some, None, Option}
+use Rattle.std.specs.Prelude.{ℕ, suc, Bool, cond, List, [], ◌∷◌, ◌++◌, is_some, Some, None, Option}
 use Rattle.std.specs.Option.{option_map}
 use Rattle.lines.specs.declared.changes.Change.{Change}
 use Rattle.records.specs.Commands.{changes_of, command_of}

@@ -6,7 +6,7 @@
 use Rattle.std.specs.Prelude.{◌≡◌, ℕ, List, [], ◌∷◌}
 use Rattle.std.specs.Option.{option_map}
 use Rattle.logs.specs.Logs.{Log}
-use Rattle.keepers.specs.Meanings.{Hand, at_seat}
+use Rattle.keepers.specs.Meanings.{at_seat}
 use Rattle.book.specs.Books.{Setting, Book, Call, new, step}
 use Rattle.runs.specs.Events.{Event, accepted, stage, points, hand}
 use Rattle.runs.specs.Histories.{history}

@@ -15,7 +15,7 @@ use lines::traits::Line;
 impl<'a, R: Rules> Store<'a, R> {
     // Changes a line at once, and holds it for the seat.
     pub fn change_line(&mut self, seat: u8, change: Change) -> Result<(), KeeperFault>
-        ensures state { changed R.Rules.method Line-as-Line.changed seat change (state self.old) ≡ (result, state self.new) }
+        ensures state { changed R.Rules.method R.Line.changed seat change (state self.old) ≡ (result, state self.new) }
         ensures same { Untouched result self.old self.new }
         ensures spare { self.new.spare.now ≡ self.old.spare.now }
     {

@@ -11,7 +11,7 @@ pub returns-in_err-open : goal.returns-in_err-open
 returns-in_err-open g c =
     let t = state c.args.self.now in
     let fault = err_from_is_err_and c.from_residual.result c.from_residual.ensures.1 in
-    let way = unseated g.R.Rules.method g.row.Line-Line.changed c.args.seat c.args.change t _ c.in_err-open.ensures in
+    let way = unseated g.R.Rules.method g.R.Line.Line.changed c.args.seat c.args.change t _ c.in_err-open.ensures in
     record { state = rw (fault.1, fault.2) way; same = rw fault.1 refl; spare = refl }
 
 pub returns-in_err-cell : goal.returns-in_err-cell
@@ -19,7 +19,7 @@ returns-in_err-cell g c =
     let t = state c.args.self.now in
     let seated = c.in_ok-open.ensures in
     let fault = err_from_is_err_and c.from_residual-in_err-cell.result c.from_residual-in_err-cell.ensures.1 in
-    let way = no_line g.R.Rules.method g.row.Line-Line.changed c.args.seat c.args.change t _ seated.0 seated.1 _ c.in_err-cell.ensures in
+    let way = no_line g.R.Rules.method g.R.Line.Line.changed c.args.seat c.args.change t _ seated.0 seated.1 _ c.in_err-cell.ensures in
     record { state = rw (fault.1, fault.2) way; same = rw fault.1 refl; spare = refl }
 
 pub returns-then-is_held_elsewhere : goal.returns-then-is_held_elsewhere
@@ -28,7 +28,7 @@ returns-then-is_held_elsewhere g c =
     let seated = c.in_ok-open.ensures in
     let there = found_cell _ _ _ c.in_ok-cell.ensures in
     record {
-      state = held g.R.Rules.method g.row.Line-Line.changed c.args.seat c.args.change t _ seated.0 seated.1 _ there (sym c.if-is_held_elsewhere.ensures);
+      state = held g.R.Rules.method g.R.Line.Line.changed c.args.seat c.args.change t _ seated.0 seated.1 _ there (sym c.if-is_held_elsewhere.ensures);
       same = refl;
       spare = refl;
     }
@@ -39,7 +39,7 @@ returns-then-not-push g c =
     let seated = c.in_ok-open.ensures in
     let there = found_cell _ _ _ c.in_ok-cell.ensures in
     record {
-      state = fifth g.R.Rules.method g.row.Line-Line.changed c.args.seat c.args.change t _ seated.0 seated.1 _ there (sym c.if-is_held_elsewhere.ensures)
+      state = fifth g.R.Rules.method g.R.Line.Line.changed c.args.seat c.args.change t _ seated.0 seated.1 _ there (sym c.if-is_held_elsewhere.ensures)
           (sym c.if-not-push.ensures.answer);
       same = refl;
       spare = refl;
@@ -51,8 +51,8 @@ returns-in_err-line g c =
     let seated = c.in_ok-open.ensures in
     let there = found_cell _ _ _ c.in_ok-cell.ensures in
     let fault = err_from_is_err_and c.from_residual-in_err-line.result c.from_residual-in_err-line.ensures.1 in
-    let answer = ap (λ x. change g.row.Line-Line.changed x c.args.change) (sym c.live.ensures) ∙ sym c.in_err-line.ensures in
-    let way = refused g.R.Rules.method g.row.Line-Line.changed c.args.seat c.args.change t _ seated.0 seated.1 _ there (sym c.if-is_held_elsewhere.ensures)
+    let answer = ap (λ x. change g.R.Line.Line.changed x c.args.change) (sym c.live.ensures) ∙ sym c.in_err-line.ensures in
+    let way = refused g.R.Rules.method g.R.Line.Line.changed c.args.seat c.args.change t _ seated.0 seated.1 _ there (sym c.if-is_held_elsewhere.ensures)
     (sym c.if-not-push.ensures.answer) _ answer in
     record { state = rw (fault.1, fault.2) way; same = rw fault.1 refl; spare = refl }
 
@@ -61,9 +61,9 @@ returns g c =
     let t = state c.args.self.now in
     let seated = c.in_ok-open.ensures in
     let there = found_cell _ _ _ c.in_ok-cell.ensures in
-    let answer = ap (λ x. change g.row.Line-Line.changed x c.args.change) (sym c.live.ensures) ∙ sym c.in_ok-line.ensures in
+    let answer = ap (λ x. change g.R.Line.Line.changed x c.args.change) (sym c.live.ensures) ∙ sym c.in_ok-line.ensures in
     record {
-      state = accepted g.R.Rules.method g.row.Line-Line.changed c.args.seat c.args.change t _ seated.0 seated.1 _ there (sym c.if-is_held_elsewhere.ensures)
+      state = accepted g.R.Rules.method g.R.Line.Line.changed c.args.seat c.args.change t _ seated.0 seated.1 _ there (sym c.if-is_held_elsewhere.ensures)
           (sym c.if-not-push.ensures.answer) _ answer (state c.put_cell.new.self) (hands c.put.new.self) _
           (c.put_cell.ensures.state ∙ ap (λ x. with_cells (set t.cells c.args.change.line x) t) c.changed_cell-cell.ensures) c.put.ensures c.push.ensures.after;
       same = tt;

@@ -10,7 +10,7 @@ fill-requires g c =
     let front = front_within g.R.Line.Coded.coding.keeps c.args.opening.now in
     let n = c.min-n.ensures in
     let f = c.lawful_front.ensures in
-    omega (arith, front, n, f, c.split_at_mut-cells.ensures.front-len)
+    omega (arith, front, n, f, c.split_at_mut-cells.ensures.front_len)
 
 pub returns : goal.returns
 returns g c =
@@ -20,8 +20,8 @@ returns g c =
     let front = front_within g.R.Line.Coded.coding.keeps opening in
     let n : c.min-n.result ≡ k = c.min-n.ensures ∙ cc (c.lawful_front.ensures, c.min.ensures, c.limit.ensures) in
     let inside : k ≤ length opening = omega (arith, front) in
-    let cells = c.fill.ensures ∙ ap (λ i. map (fresh_cell g.R.Rules.method) (take i opening)) c.split_at_mut-cells.ensures.front-len in
+    let cells = c.fill.ensures ∙ ap (λ i. map (fresh_cell g.R.Rules.method) (take i opening)) c.split_at_mut-cells.ensures.front_len in
     record {
       state = opened_is g.R.Rules.method opening k inside _ _ _ _ n cells c.new.ensures c.new-2.ensures;
-      spare = sym (ap (drop k) c.split_at_mut-cells.ensures.value ∙ drop_at c.split_at_mut-cells.result.0.now c.split_at_mut-cells.result.1.now k (c.split_at_mut-cells.ensures.front-len ∙ n));
+      spare = sym (ap (drop k) c.split_at_mut-cells.ensures.value ∙ drop_at c.split_at_mut-cells.result.0.now c.split_at_mut-cells.result.1.now k (c.split_at_mut-cells.ensures.front_len ∙ n));
     }

@@ -4,7 +4,7 @@ use Rattle.store.proofs.stores.keeping.StoreKeeper.begin.Goals as goal
 
 pub returns : goal.returns
 returns g c = record {
-  state = λ v. begins_shown g.R.Rules.method g.R.Rules.sound g.row.R-Line-Line.changed c.args.seat (state c.args.self.now) v _ _ c.begin_seat.ensures.state;
+  state = λ v. begins_shown g.R.Rules.method g.R.Rules.sound g.R.Line.Line.changed c.args.seat (state c.args.self.now) v _ _ c.begin_seat.ensures.state;
   same = c.begin_seat.ensures.same;
   spare = c.begin_seat.ensures.spare;
 }

@@ -4,7 +4,7 @@ use Rattle.store.proofs.stores.keeping.StoreKeeper.commit.Goals as goal
 
 pub returns : goal.returns
 returns g c = record {
-  state = λ v. commits_shown g.R.Rules.method g.R.Rules.sound g.met.R.Rules.lawful g.row.R-Line-Line.changed c.args.seat (state c.args.self.now) v _ _ c.end_seat.ensures.state;
+  state = λ v. commits_shown g.R.Rules.method g.R.Rules.sound g.met.R.Rules.lawful g.R.Line.Line.changed c.args.seat (state c.args.self.now) v _ _ c.end_seat.ensures.state;
   same = c.end_seat.ensures.same;
   spare = c.end_seat.ensures.spare;
 }

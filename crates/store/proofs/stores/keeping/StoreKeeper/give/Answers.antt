@@ -4,7 +4,7 @@ use Rattle.store.proofs.stores.keeping.StoreKeeper.give.Goals as goal
 
 pub returns : goal.returns
 returns g c = record {
-  state = λ v. gives_shown g.R.Rules.method g.R.Rules.sound g.met.R.Rules.lawful g.row.R-Line-Line.changed (state c.args.self.now) v _ _ c.give_out.ensures.state;
+  state = λ v. gives_shown g.R.Rules.method g.R.Rules.sound g.met.R.Rules.lawful g.R.Line.Line.changed (state c.args.self.now) v _ _ c.give_out.ensures.state;
   same = c.give_out.ensures.same;
   spare = c.give_out.ensures.spare;
 }

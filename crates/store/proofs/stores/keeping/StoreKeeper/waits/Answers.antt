@@ -5,4 +5,4 @@ use Rattle.store.proofs.stores.keeping.StoreKeeper.waits.Goals as goal
 
 pub returns : goal.returns
 returns g c =
-    λ v. c.awaits.ensures ∙ sym (waiting-same g.R.Rules.method g.R.Rules.sound g.met.R.Rules.lawful g.row.R-Line-Line.changed (state c.args.self.now))
+    λ v. c.awaits.ensures ∙ sym (waiting-same g.R.Rules.method g.R.Rules.sound g.met.R.Rules.lawful g.R.Line.Line.changed (state c.args.self.now))

@@ -3,7 +3,7 @@ use Rattle.images.specs.Images.{lines_bytes}
 use Rattle.std.proofs.Common.{◌≡◌, ℕ, zero, suc, ◌+◌, ◌^◌, ◌≤◌, true, ◌&&◌, eqb, ltb, List, [], ◌∷◌, ◌++◌, length, drop, Some, None, Ok, Err, Option, Result, sym, refl, ap, ◌∙◌, inl, inr, arith}
 use Rattle.std.proofs.lemmas.List.{append_assoc, append-nil, length-append, drop_all}
 use Rattle.std.proofs.lemmas.Bool.{and_parts, cases_Bool, eqb-true}
-use Rattle.std.specs.List.{AllByRecursion as All}
+use Rattle.std.specs.List.{AllByRecursion}
 use Rattle.lines.specs.Bytes.{Bytes}
 use Rattle.lines.specs.Coding.{Coding, Lawful}
 use Rattle.records.specs.declared.heads.Head.{Head}
@@ -40,7 +40,7 @@ pub record Walked {L : Type 0} (f : Coding L) (h : Head) (low count at : ℕ) (b
   pub rest : List ℕ
   pub split : bs ≡ lines_bytes f seen ++ rest
   pub turns : Turns h low seen
-  pub kept : All (λ v. f.keeps v.line ≡ true) seen
+  pub kept : AllByRecursion (λ v. f.keeps v.line ≡ true) seen
   pub finish : Finish h (count + length seen) (at + length (lines_bytes f seen)) rest seen r
 
 pub length_end : (count : ℕ) → length (bytes_of end_record count) ≡ 6

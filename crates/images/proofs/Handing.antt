@@ -3,7 +3,7 @@ use Rattle.std.proofs.Common.{◌≡◌, ℕ, zero, suc, ◌+◌, ◌-◌, ◌*�
 use Rattle.std.proofs.lemmas.List.{append_assoc, drop_at, drop-drop, drop-take, length-append, take_at, take_rest, take-take}
 use Rattle.std.proofs.lemmas.Bool.{and_from, and_right, cases_Bool, le-leb, le-ltb, lt-leb, lt-ltb}
 use Rattle.std.specs.Option.{option_map}
-use Rattle.std.specs.List.{AllByRecursion as All, slice_get}
+use Rattle.std.specs.List.{AllByRecursion, slice_get}
 use Rattle.lines.specs.Bytes.{le, number, whole}
 use Rattle.lines.specs.Coding.{Coding, Lawful}
 use Rattle.lines.proofs.LittleEndian.{length-le, number-le}
@@ -144,13 +144,13 @@ module _ {L : Type 0} (f : Coding L) (lawful : Lawful f) where
     part-lawful (Some v) e = part_there v e
     part-lawful None e = rw (le-ltb k (length c.lines) (nth_none c.lines k e))
 
-  kept_nth : (vs : List (ImageLine L)) (k : ℕ) (v : ImageLine L) → All (λ x. f.keeps x.line ≡ true) vs → slice_get vs k ≡ Some v → f.keeps v.line ≡ true
+  kept_nth : (vs : List (ImageLine L)) (k : ℕ) (v : ImageLine L) → AllByRecursion (λ x. f.keeps x.line ≡ true) vs → slice_get vs k ≡ Some v → f.keeps v.line ≡ true
   kept_nth [] k v h e = let z : ◌≡◌ {A = ℕ} 0 1 = cc in absurd (omega arith)
   kept_nth (x ∷ xs) zero v h e = let same : x ≡ v = cc in rw same at h.0
   kept_nth (x ∷ xs) (suc k) v h e = kept_nth xs k v h.1 e
 
   -- a part of a line that keeps its rule reads as that line
-  part_line : (vs : List (ImageLine L)) (k : ℕ) → All (λ v. f.keeps v.line ≡ true) vs → (o : Option (ImageLine L)) → slice_get vs k ≡ o → line_in_part f (option_map (handing f k) o) ≡ o
+  part_line : (vs : List (ImageLine L)) (k : ℕ) → AllByRecursion (λ v. f.keeps v.line ≡ true) vs → (o : Option (ImageLine L)) → slice_get vs k ≡ o → line_in_part f (option_map (handing f k) o) ≡ o
   part_line vs k kept None e = refl
   part_line vs k kept (Some v) e = rw (lawful.reads_back v.line (kept_nth vs k v kept e))
 

@@ -1,7 +1,7 @@
 -- What is accepted is a lawful image, and is its only writing.
 use Rattle.std.proofs.Common.{◌≡◌, ℕ, ◌+◌, ◌^◌, ◌<◌, ◌≤◌, true, ◌&&◌, eqb, ltb, leb, List, ◌++◌, length, drop, Some, None, Ok, Err, Option, Result, sym, refl, ap, ◌∙◌, subst, inl, inr, zero-add, arith}
 use Rattle.std.proofs.lemmas.Bool.{and_parts, cases_Bool, eqb-true, leb-true, ltb-true}
-use Rattle.std.specs.List.{AllByRecursion as All}
+use Rattle.std.specs.List.{AllByRecursion}
 use Rattle.lines.specs.Bytes.{Bytes}
 use Rattle.lines.specs.Coding.{Coding, Lawful}
 use Rattle.records.specs.declared.heads.Head.{Head}
@@ -59,7 +59,7 @@ module _ {L : Type 0} (f : Coding L) (lawful : Lawful f) (bs : List ℕ) (typed 
         from = c.1;
       }
 
-  pub lawful_says : (h : Head) (len : ℕ) (vs : List (ImageLine L)) → Begun h len → Rising 0 h.n vs → All (λ v. f.keeps v.line ≡ true) vs → Due h.mode (length vs) h.n → LawfulImage f (says h vs)
+  pub lawful_says : (h : Head) (len : ℕ) (vs : List (ImageLine L)) → Begun h len → Rising 0 h.n vs → AllByRecursion (λ v. f.keeps v.line ≡ true) vs → Due h.mode (length vs) h.n → LawfulImage f (says h vs)
   lawful_says h len vs b rising kept due = record {
     few = b.few;
     passed = b.passed;

@@ -3,7 +3,7 @@ use Rattle.std.proofs.Common.{◌≡◌, ℕ, zero, suc, ◌+◌, ◌-◌, ◌�
 use Rattle.std.proofs.ByRecursion.{All-append}
 use Rattle.std.proofs.lemmas.List.{append_assoc, length-append, length-map, map-append, take_at, take_all}
 use Rattle.std.proofs.lemmas.Bool.{and_parts, cases_Bool, eqb-true}
-use Rattle.std.specs.List.{AllByRecursion as All}
+use Rattle.std.specs.List.{AllByRecursion}
 use Rattle.lines.specs.Bytes.{Bytes}
 use Rattle.lines.specs.Coding.{Coding, Lawful}
 use Rattle.records.specs.declared.heads.Head.{Head}
@@ -66,7 +66,7 @@ unfolding fill
 fill_rises x i zero n h = tt
 fill_rises x i (suc m) n h = (omega arith, omega arith, fill_rises x (suc i) m n (omega arith))
 
-fill_kept : {L : Type 0} (f : Coding L) (x : L) (i m : ℕ) → f.keeps x ≡ true → All (λ v. f.keeps v.line ≡ true) (fill x i m)
+fill_kept : {L : Type 0} (f : Coding L) (x : L) (i m : ℕ) → f.keeps x ≡ true → AllByRecursion (λ v. f.keeps v.line ≡ true) (fill x i m)
 unfolding fill
 fill_kept f x i zero k = tt
 fill_kept f x i (suc m) k = (k, fill_kept f x (suc i) m k)

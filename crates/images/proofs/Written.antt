@@ -2,7 +2,7 @@
 use Rattle.std.proofs.Common.{◌≡◌, ℕ, zero, suc, ◌+◌, ◌^◌, ◌<◌, ◌≤◌, true, cond, eqb, ltb, leb, List, [], ◌∷◌, ◌++◌, map, length, take, Ok, Err, Result, sym, refl, ap, ◌∙◌, inl, inr, zero-add, arith}
 use Rattle.std.proofs.lemmas.List.{append_assoc, append-nil, length-append}
 use Rattle.std.proofs.lemmas.Bool.{and_from, cases_Bool, eq-eqb, le-leb, lt-ltb}
-use Rattle.std.specs.List.{AllByRecursion as All}
+use Rattle.std.specs.List.{AllByRecursion}
 use Rattle.lines.specs.Bytes.{Bytes}
 use Rattle.lines.specs.Coding.{Coding, Lawful}
 use Rattle.records.specs.declared.heads.Head.{Head}
@@ -47,7 +47,7 @@ module _ {L : Type 0} (f : Coding L) (lawful : Lawful f) (h : Head) (few : h.n �
       let none = other_kind end_record (line_record f) bs count (length (bytes_of end_record count)) was.0 (λ z. omega arith) (read (line_record f) bs) refl in
       no_line f h k low count at bs none ∙ rw (was.0, eq-eqb count count refl, all, length_end count)
 
-  pub lines_back : (vs : List (ImageLine L)) (m k low count at : ℕ) (bs : List ℕ) → Bytes bs → Turns h low vs → All (λ v. f.keeps v.line ≡ true) vs → h.n ≤ count + k → count ≤ low
+  pub lines_back : (vs : List (ImageLine L)) (m k low count at : ℕ) (bs : List ℕ) → Bytes bs → Turns h low vs → AllByRecursion (λ v. f.keeps v.line ≡ true) vs → h.n ≤ count + k → count ≤ low
       → m ≡ count + length vs → m ≤ 1024 → complete h m ≡ true → bs ≡ lines_bytes f vs ++ bytes_of end_record m → lines_from f h k low count at bs ≡ Ok vs
   lines_back [] m k low count at bs typed t kept fuel c total most all e =
       let same : m ≡ count = omega arith in
@@ -73,7 +73,7 @@ module _ {L : Type 0} (f : Coding L) (lawful : Lawful f) (h : Head) (few : h.n �
   before_err v (Ok vs) u e = let z : ◌≡◌ {A = ℕ} 0 1 = cc in absurd (omega arith)
   before_err v (Err w) u e = e
 
-  pub lines_most : (vs : List (ImageLine L)) (j m k low count at : ℕ) (bs rest : List ℕ) (o : ℕ) → Bytes bs → Turns h low vs → All (λ v. f.keeps v.line ≡ true) vs → h.n ≤ count + k → count ≤ low
+  pub lines_most : (vs : List (ImageLine L)) (j m k low count at : ℕ) (bs rest : List ℕ) (o : ℕ) → Bytes bs → Turns h low vs → AllByRecursion (λ v. f.keeps v.line ≡ true) vs → h.n ≤ count + k → count ≤ low
       → m ≡ count + length vs → m ≤ 1024 → complete h m ≡ true
       → bs ≡ flat (take j (map (bytes_of (line_record f)) vs ++ bytes_of end_record m ∷ [])) ++ rest → lines_from f h k low count at bs ≡ Err (unlawful o)
       → at + length (flat (take j (map (bytes_of (line_record f)) vs ++ bytes_of end_record m ∷ []))) ≤ o

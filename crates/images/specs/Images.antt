@@ -11,7 +11,7 @@
 --   ByMode m c       what a full and what a partial image owe
 --   LawfulImage f c  what makes an image lawful: see its fields
 use Rattle.std.specs.Prelude.{◌≡◌, ℕ, suc, ◌^◌, ◌<◌, ◌≤◌, true, List, [], ◌∷◌, ◌++◌, map, length}
-use Rattle.std.specs.List.{flat_map, AllByRecursion as All}
+use Rattle.std.specs.List.{flat_map, AllByRecursion}
 use Rattle.lines.specs.Coding.{Coding}
 use Rattle.records.specs.declared.heads.Head.{Head}
 use Rattle.records.specs.declared.heads.Mode.{Mode}
@@ -65,4 +65,4 @@ pub record LawfulImage {L : Type 0} (f : Coding L) (c : Content L) : Type 0 wher
   -- line numbers rise and are below n
   pub rising : Rising 0 c.n c.lines
   -- each line keeps its kind's rule, so that its payload is readable
-  pub kept : All (λ v. f.keeps v.line ≡ true) c.lines
+  pub kept : AllByRecursion (λ v. f.keeps v.line ≡ true) c.lines

@@ -2,7 +2,7 @@
 #![tactic(auto)]
 
 #[cfg(test)]
-mod joins;
+mod joining;
 #[cfg(test)]
 mod reads;
 pub mod wide;

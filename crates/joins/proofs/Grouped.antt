@@ -3,7 +3,7 @@ use Rattle.std.proofs.Common.{◌≡◌, ℕ, true, cond, List, [], ◌∷◌, �
 use Rattle.std.proofs.lemmas.List.{length-append, map-append}
 use Rattle.std.proofs.lemmas.Bool.{cases_Bool}
 use Rattle.std.specs.Option.{option_map}
-use Rattle.std.specs.List.{AllByRecursion as All}
+use Rattle.std.specs.List.{AllByRecursion}
 use Rattle.lines.specs.Bytes.{Bytes}
 use Rattle.lines.specs.Coding.{Coding, Lawful}
 use Rattle.images.specs.declared.faults.Unlawful.{Unlawful}
@@ -99,7 +99,7 @@ two_leaves s t e =
     let more = ap length (leaves_are t) in
     omega arith
 
-all_split : {X : Type 0} (P : X → Type 0) (xs ys : List X) → All P (xs ++ ys) → All P xs × All P ys
+all_split : {X : Type 0} (P : X → Type 0) (xs ys : List X) → AllByRecursion P (xs ++ ys) → AllByRecursion P xs × AllByRecursion P ys
 all_split P [] ys h = (tt, h)
 all_split P (x ∷ xs) ys h = let behind = all_split P xs ys h.1 in ((h.0, behind.0), behind.1)
 
@@ -137,7 +137,7 @@ module _ {L : Type 0} (f : Coding L) (lawful : Lawful f) where
     | inr apart ↦ let none : None ≡ Some c = rw apart at e in let z : ◌≡◌ {A = ℕ} 0 1 = cc in absurd (omega arith)
   ]
 
-  says_lawful : (t : Tree) → All Bytes (leaves t) → (c : Content L) → says t ≡ Some c → LawfulImage f c
+  says_lawful : (t : Tree) → AllByRecursion Bytes (leaves t) → (c : Content L) → says t ≡ Some c → LawfulImage f c
   unfolding content
   says_lawful (image bs) typed c e = (only f lawful bs typed.0 c (said_some (reading f bs) c e)).0
   says_lawful (pair s t) typed c e =
@@ -168,13 +168,13 @@ module _ {L : Type 0} (f : Coding L) (lawful : Lawful f) where
   pair-by : (s t : Tree) → heard (value f s) ≡ says s → heard (value f t) ≡ says t → value f (pair s t) ≡ option_map (writing f) (says (pair s t))
   pair-by s t hs ht = both_say (value f s) (value f t) ∙ rw (hs, ht)
 
-  value_says : (t : Tree) → All Bytes (leaves t) → heard (value f t) ≡ says t
+  value_says : (t : Tree) → AllByRecursion Bytes (leaves t) → heard (value f t) ≡ says t
   value_says (image bs) typed = refl
   value_says (pair s t) typed =
       let both = all_split Bytes (leaves s) (leaves t) typed in
       ap heard (pair-by s t (value_says s both.0) (value_says t both.1)) ∙ heard_back (says (pair s t)) (says_lawful (pair s t) typed)
 
-  pair-value : (s t : Tree) → All Bytes (leaves (pair s t)) → value f (pair s t) ≡ option_map (writing f) (says (pair s t))
+  pair-value : (s t : Tree) → AllByRecursion Bytes (leaves (pair s t)) → value f (pair s t) ≡ option_map (writing f) (says (pair s t))
   pair-value s t typed =
       let both = all_split Bytes (leaves s) (leaves t) typed in
       pair-by s t (value_says s both.0) (value_says t both.1)
@@ -192,4 +192,4 @@ module _ {L : Type 0} (f : Coding L) (lawful : Lawful f) where
   grouped (image x) (pair s t) typed e = absurd (two_leaves s t (sym (ap length e)))
   grouped (pair s t) (image x) typed e = absurd (two_leaves s t (ap length e))
   grouped (pair s t) (pair u v) typed e =
-      pair-value s t typed ∙ ap (option_map (writing f)) (same_says (pair s t) (pair u v) e) ∙ sym (pair-value u v (subst (λ xs. All Bytes xs) e typed))
+      pair-value s t typed ∙ ap (option_map (writing f)) (same_says (pair s t) (pair u v) e) ∙ sym (pair-value u v (subst (λ xs. AllByRecursion Bytes xs) e typed))

@@ -2,7 +2,7 @@
 use Rattle.std.proofs.Common.{◌≡◌, ℕ, zero, suc, ◌+◌, ◌*◌, ◌<◌, true, ◌&&◌, eqb, List, [], ◌∷◌, ◌++◌, length, Some, None, Option, sym, refl, ap, ◌∙◌, inl, inr, suc-mul, zero-mul, arith}
 use Rattle.std.proofs.lemmas.List.{length-append}
 use Rattle.std.proofs.lemmas.Bool.{and_parts, cases_Bool, eqb-true}
-use Rattle.std.specs.List.{AllByRecursion as All}
+use Rattle.std.specs.List.{AllByRecursion}
 use Rattle.lines.specs.Bytes.{Bytes}
 use Rattle.lines.specs.Coding.{Coding, Lawful}
 use Rattle.records.specs.declared.heads.Mode.{Mode}
@@ -33,7 +33,7 @@ joins-parts a b h =
 
 module _ {L : Type 0} (f : Coding L) where
   -- a line of an image keeps its rule
-  kept_line : (vs : List (ImageLine L)) (i : ℕ) (x : L) → All (λ v. f.keeps v.line ≡ true) vs → line_of vs i ≡ Some x → f.keeps x ≡ true
+  kept_line : (vs : List (ImageLine L)) (i : ℕ) (x : L) → AllByRecursion (λ v. f.keeps v.line ≡ true) vs → line_of vs i ≡ Some x → f.keeps x ≡ true
   kept_line [] i x k e = let z : ◌≡◌ {A = ℕ} 0 1 = cc in absurd (omega arith)
   kept_line (v ∷ vs) i x k e = elim (cases_Bool (eqb v.number i)) [
     | inl here ↦ let some : Some v.line ≡ Some x = rw here at e in let same : v.line ≡ x = cc in rw same at k.0
@@ -44,11 +44,11 @@ module _ {L : Type 0} (f : Coding L) where
   kept_newer x None z kx ky e = kx z e
   kept_newer x (Some y) z kx ky e = ky z e
 
-  kept_then : (i : ℕ) (x : Option L) (vs : List (ImageLine L)) → ((u : L) → x ≡ Some u → f.keeps u ≡ true) → All (λ v. f.keeps v.line ≡ true) vs → All (λ v. f.keeps v.line ≡ true) (and_then i x vs)
+  kept_then : (i : ℕ) (x : Option L) (vs : List (ImageLine L)) → ((u : L) → x ≡ Some u → f.keeps u ≡ true) → AllByRecursion (λ v. f.keeps v.line ≡ true) vs → AllByRecursion (λ v. f.keeps v.line ≡ true) (and_then i x vs)
   kept_then i None vs h k = k
   kept_then i (Some x) vs h k = (h x refl, k)
 
-  kept_listed : (g : ℕ → Option L) (low m : ℕ) → ((i : ℕ) (u : L) → g i ≡ Some u → f.keeps u ≡ true) → All (λ v. f.keeps v.line ≡ true) (listed g low m)
+  kept_listed : (g : ℕ → Option L) (low m : ℕ) → ((i : ℕ) (u : L) → g i ≡ Some u → f.keeps u ≡ true) → AllByRecursion (λ v. f.keeps v.line ≡ true) (listed g low m)
   kept_listed g low zero h = tt
   kept_listed g low (suc m) h = kept_then low (g low) (listed g (suc low) m) (h low) (kept_listed g (suc low) m h)
 

@@ -16,7 +16,7 @@
 --   Grouping f           images joined in one order give the same, however they are grouped
 --   JoinLaw ..           what a join that is accepted leaves in memory is the image that says what it should
 use Rattle.std.specs.Prelude.{◌≡◌, ℕ, zero, suc, Bool, true, false, cond, ◌&&◌, List, [], ◌∷◌, ◌++◌, length, take, Some, None, Ok, Err, Option, Result, ◌==◌, nat_le}
-use Rattle.std.specs.List.{AllByRecursion as All}
+use Rattle.std.specs.List.{AllByRecursion}
 use Rattle.lines.specs.Bytes.{Bytes, put}
 use Rattle.lines.specs.Coding.{Coding}
 use Rattle.records.specs.declared.heads.Mode.{Mode}
@@ -102,7 +102,7 @@ value f (image bs) = Some bs
 value f (pair s t) = join_both f (value f s) (value f t)
 
 abbrev pub Grouping : {L : Type 0} → Coding L → Type 0
-Grouping f = (s t : Tree) → All Bytes (leaves s) → leaves s ≡ leaves t → value f s ≡ value f t
+Grouping f = (s t : Tree) → AllByRecursion Bytes (leaves s) → leaves s ≡ leaves t → value f s ≡ value f t
 
 abbrev pub JoinLaw : {L : Type 0} → Coding L → List ℕ → List ℕ → Result ℕ JoinFault → List ℕ → Type 0
 JoinLaw {L} f x y r after =

@@ -9,10 +9,10 @@
 --   overwritten m at bs   memory m with bs from the offset at on, the rest as it was
 --   room bs m    how many bytes that wrote: the length of bs, or none where it does not fit
 use Rattle.std.specs.Prelude.{ℕ, zero, suc, ◌+◌, ◌*◌, ◌/◌, ◌%◌, ◌<◌, Bool, true, false, cond, ◌&&◌, List, [], ◌∷◌, ◌++◌, length, take, drop, Some, None, Option, ◌==◌, nat_le}
-use Rattle.std.specs.List.{AllByRecursion as All}
+use Rattle.std.specs.List.{AllByRecursion}
 
 abbrev pub Bytes : List ℕ → Type 0
-Bytes bs = All (λ b. b < 256) bs
+Bytes bs = AllByRecursion (λ b. b < 256) bs
 
 unfoldable pub le : ℕ → ℕ → List ℕ
 le zero n = []

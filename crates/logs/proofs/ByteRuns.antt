@@ -2,7 +2,7 @@
 use Rattle.std.proofs.Common.{◌≡◌, ℕ, ◌+◌, ◌≤◌, min, true, List, [], ◌∷◌, ◌++◌, length, take, drop, sym, refl, ap, ◌∙◌, arith}
 use Rattle.std.proofs.ByRecursion.{All-push}
 use Rattle.std.proofs.lemmas.List.{append-nil, append_assoc, length-append, length-take, length-take-le, take_at, take-take, flat_map_more}
-use Rattle.std.specs.List.{AllByRecursion as All}
+use Rattle.std.specs.List.{AllByRecursion}
 use Rattle.logs.specs.declared.entries.Entry.{Entry}
 use Rattle.logs.specs.ByteLogs.{overwritten}
 use Rattle.logs.specs.Logs.{spent}
@@ -15,7 +15,7 @@ unfolding entries_in
 nothing_in = refl
 
 -- records that are written, and nothing else, are all a run
-pub entries_of_written : (es : List Entry) → All (λ e. entry_fits e ≡ true) es → entries_in (written es) ≡ es
+pub entries_of_written : (es : List Entry) → AllByRecursion (λ e. entry_fits e ≡ true) es → entries_in (written es) ≡ es
 entries_of_written es fits = rw (append-nil (written es)) at (entries_written es [] fits tt) ∙ rw nothing_in (append-nil es)
 
 -- the run at the front of the first u bytes of memory
@@ -40,7 +40,7 @@ module _ (m : List ℕ) (used : ℕ) (inside : used ≤ length m) (whole : writt
   pub used_spent : spent byte_cost (entries_in (take used m)) ≡ used
   used_spent = sym (length_written (entries_in (take used m))) ∙ ap length whole ∙ length-take-le used m inside
 
-  pub fit : All (λ e. entry_fits e ≡ true) (entries_in (take used m))
+  pub fit : AllByRecursion (λ e. entry_fits e ≡ true) (entries_in (take used m))
   fit = (run (take used m) (rw (← whole) (bytes_written (entries_in (take used m))))).fit
 
   -- one record more behind them

@@ -3,7 +3,7 @@ use Rattle.std.proofs.Common.{◌≡◌, ℕ, zero, suc, ◌-◌, ◌<◌, ◌�
 use Rattle.std.proofs.ByRecursion.{All-take, All-drop}
 use Rattle.std.proofs.lemmas.List.{length-take, take-take, take-append-drop, drop_at}
 use Rattle.std.proofs.lemmas.Bool.{cases_lt, le-leb, lt-leb}
-use Rattle.std.specs.List.{AllByRecursion as All}
+use Rattle.std.specs.List.{AllByRecursion}
 use Rattle.lines.specs.Bytes.{Bytes}
 use Rattle.records.proofs.Framed.{bytes-append}
 use Rattle.logs.specs.declared.entries.Entry.{Entry}
@@ -38,7 +38,7 @@ cut_none e rest u fits typed h (Some p) r =
     let long : byte_cost e ≡ byte_cost p.0 = ap (λ q. q.1) same in
     absurd (omega (arith, only.1))
 
-pub entries_cut : (es : List Entry) (u : ℕ) → All (λ e. entry_fits e ≡ true) es → entries_in (take u (written es)) ≡ fitting u es
+pub entries_cut : (es : List Entry) (u : ℕ) → AllByRecursion (λ e. entry_fits e ≡ true) es → entries_in (take u (written es)) ≡ fitting u es
 entries_cut [] zero fits = nothing_in
 entries_cut [] (suc u) fits = nothing_in
 entries_cut (e ∷ es) u fits = elim (cases_lt u (byte_cost e)) [

@@ -2,7 +2,7 @@
 use Rattle.std.proofs.Common.{◌≡◌, ℕ, zero, suc, ◌+◌, ◌-◌, ◌<◌, ◌≤◌, true, List, [], ◌∷◌, ◌++◌, length, take, drop, Some, None, Option, sym, refl, ap, ◌∙◌, subst, arith}
 use Rattle.std.proofs.ByRecursion.{All-drop}
 use Rattle.std.proofs.lemmas.List.{length-drop, append_assoc, drop_at, drop-drop, take_rest}
-use Rattle.std.specs.List.{AllByRecursion as All}
+use Rattle.std.specs.List.{AllByRecursion}
 use Rattle.lines.specs.Bytes.{Bytes}
 use Rattle.records.specs.declared.commands.Command.{Command as Changes}
 use Rattle.records.specs.Commands.{command_record}
@@ -114,7 +114,7 @@ bytes_written [] = tt
 bytes_written (e ∷ es) = bytes-append (entry_bytes e) (written es) (bytes_entry e) (bytes_written es)
 
 -- records that are written are a run
-pub entries_written : (es : List Entry) (rest : List ℕ) → All (λ e. entry_fits e ≡ true) es → Bytes rest → entries_in (written es ++ rest) ≡ es ++ entries_in rest
+pub entries_written : (es : List Entry) (rest : List ℕ) → AllByRecursion (λ e. entry_fits e ≡ true) es → Bytes rest → entries_in (written es ++ rest) ≡ es ++ entries_in rest
 entries_written [] rest fits typed = refl
 entries_written (e ∷ es) rest fits typed =
     let behind = written es ++ rest in

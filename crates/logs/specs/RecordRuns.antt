@@ -8,7 +8,7 @@
 --   written es         the records of es, one behind the other
 --   LongestRun bs es   es is that run, in words: see its fields
 use Rattle.std.specs.Prelude.{◌≡◌, ℕ, zero, suc, Bool, true, List, [], ◌∷◌, length, take, drop, Some, None, Option}
-use Rattle.std.specs.List.{flat_map, AllByRecursion as All}
+use Rattle.std.specs.List.{flat_map, AllByRecursion}
 use Rattle.records.specs.declared.commands.Command.{Command as Changes}
 use Rattle.records.specs.Commands.{command_record}
 use Rattle.records.specs.Framing.{bytes_of, read}
@@ -50,7 +50,7 @@ written es = flat_map entry_bytes es
 
 pub record LongestRun (bs : List ℕ) (es : List Entry) : Type 0 where
   -- the numbers of es fit their bytes
-  pub fit : All (λ e. entry_fits e ≡ true) es
+  pub fit : AllByRecursion (λ e. entry_fits e ≡ true) es
   -- the records of es stand at the front of bs
   pub front : take (spent byte_cost es) bs ≡ written es
   -- and no lawful log record stands behind them

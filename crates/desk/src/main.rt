@@ -22,15 +22,17 @@ use reports::{report_image, report_join, report_log};
 use scene::play_scene;
 use script::{Entry, Kind, Method, Step};
 use std::io::Read;
+use std::process::ExitCode;
 use std::{env, fs};
 use zigzag::twins::Zigzag;
 
-fn main(rt: HostRuntime) -> anyhow::Result<()> {
+// What went wrong is one line on standard error; returned from here, it would be printed a second time.
+fn main(rt: HostRuntime) -> ExitCode {
     match run(&rt) {
-        Ok(()) => Ok(()),
+        Ok(()) => ExitCode::SUCCESS,
         Err(error) => {
-            eprintln!(rt; "{error}")?;
-            Err(error)
+            let _ = eprintln!(rt; "{error}");
+            ExitCode::FAILURE
         }
     }
 }

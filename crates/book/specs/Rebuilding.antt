@@ -4,7 +4,6 @@
 --   replayed f ls cs i   the lines ls after the changes cs of entry i, made in order; or why one of them is refused
 --   behind f ls es i     the lines after every command of the entries es, the first of which has index i; marks do nothing
 --   Replay L             the lines as they then stand, and the refusal at which it stopped, if it did
---   memory-lines f ls n  the lines of an image in the first n places of memory
 --   rebuilt f g bs es ls the answer, and the memory ls after it
 use Rattle.std.specs.Prelude.{ℕ, suc, cond, List, [], ◌∷◌, ◌++◌, map, length, drop, Some, None, Ok, Err, Option, Result, ◌==◌, nat_le}
 use Rattle.lines.specs.declared.changes.Change.{Change}

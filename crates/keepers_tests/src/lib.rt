@@ -10,7 +10,6 @@ mod tests {
     use kinds::accounts::Account;
     use lines::changes::Change;
     use lines::traits::Line;
-    use std::process::Abort;
     use std::test::Fail;
     use zigzag::twins::Zigzag;
 
@@ -129,55 +128,58 @@ mod tests {
     }
 
     // Plays a scene. A call that goes otherwise is named by its place.
-    fn play<'a, K: Keeper<'a, Line = Account>>(rt: &impl Abort, keeper: &mut K, scene: &[Call]) {
+    fn play<'a, K: Keeper<'a, Line = Account>>(keeper: &mut K, scene: &[Call]) -> Result<(), Fail> {
         for (i, call) in scene.iter().enumerate() {
-            assert_eq!(rt; (i, made(keeper, *call)), (i, true));
+            if !made(keeper, *call) {
+                return Err(Fail::new(i));
+            }
         }
+        Ok(())
     }
 
     // A keeper of so many lines passes a point and gives them all out.
-    fn image<'a, K: Keeper<'a, Line = Account>>(rt: &impl Abort, keeper: &mut K, lines: usize) {
-        assert_eq!(rt; keeper.count(), lines);
-        play(rt, keeper, &TO_TAKING);
-        for _k in 0..lines {
-            play(rt, keeper, &[Call::Turn(28), Call::Give(5, false)]);
+    fn image<'a, K: Keeper<'a, Line = Account>>(keeper: &mut K, lines: usize) -> Result<(), Fail> {
+        if keeper.count() != lines {
+            return Err(Fail::new("another number of lines"));
         }
-        play(rt, keeper, &TO_REST);
+        play(keeper, &TO_TAKING)?;
+        for _k in 0..lines {
+            play(keeper, &[Call::Turn(28), Call::Give(5, false)])?;
+        }
+        play(keeper, &TO_REST)
     }
 
     #[test]
-    fn zigzag_rounds(rt: HostRuntime) {
+    fn zigzag_rounds() -> Result<(), Fail> {
         let mut memory = [Zigzag::blank(account(0)); 3];
         let mut keeper = Zigzag::open(&[account(100), account(200)], &mut memory);
-        play(&rt, &mut keeper, &FIRST_IMAGE);
-        play(&rt, &mut keeper, &TO_TAKING);
+        play(&mut keeper, &FIRST_IMAGE)?;
+        play(&mut keeper, &TO_TAKING)?;
         play(
-            &rt,
             &mut keeper,
             &[Call::Give(150, false), Call::Give(207, true)],
-        );
-        play(&rt, &mut keeper, &TO_REST);
+        )?;
+        play(&mut keeper, &TO_REST)
     }
 
     #[test]
-    fn zigzag_refusals(rt: HostRuntime) {
+    fn zigzag_refusals() -> Result<(), Fail> {
         let mut memory = [Zigzag::blank(account(0)); 2];
         let mut keeper = Zigzag::open(&[account(100), account(200)], &mut memory);
-        play(&rt, &mut keeper, &REFUSALS);
-        play(&rt, &mut keeper, &[Call::Begin(4, 25)]);
+        play(&mut keeper, &REFUSALS)?;
+        play(&mut keeper, &[Call::Begin(4, 25)])
     }
 
     #[test]
     fn zigzag_sizes(rt: HostRuntime) -> Result<(), Fail> {
         let blank = Zigzag::blank(account(0));
         let mut none = [blank; 0];
-        image(&rt, &mut Zigzag::open(&[account(5); 3], &mut none), 0);
+        image(&mut Zigzag::open(&[account(5); 3], &mut none), 0)?;
         let mut one = [blank; 1];
-        image(&rt, &mut Zigzag::open(&[account(5); 3], &mut one), 1);
+        image(&mut Zigzag::open(&[account(5); 3], &mut one), 1)?;
         let mut many = vec![in rt.alloc(); blank; 1030]?;
         let opening = vec![in rt.alloc(); account(5); 1027]?;
-        image(&rt, &mut Zigzag::open(&opening, &mut many), 1024);
-        Ok(())
+        image(&mut Zigzag::open(&opening, &mut many), 1024)
     }
 
     // The opening list ends before its first line that breaks its rule.

@@ -14,7 +14,6 @@ mod tests {
     use lines::changes::Change;
     use lines::traits::Line;
     use ping_pong::shadowed::PingPong;
-    use std::process::Abort;
     use std::test::Fail;
     use zigzag::twins::Zigzag;
 
@@ -143,23 +142,30 @@ mod tests {
         looks: (0, 0),
     };
 
+    fn check(holds: bool) -> Result<(), Fail> {
+        if holds {
+            Ok(())
+        } else {
+            Err(Fail::new("the methods differ, or not from the point"))
+        }
+    }
+
     // Plays a plan, and sees that what is given out is what was committed at the point.
     fn trace<'a, K: Keeper<'a, Line = Account>>(
-        rt: &impl Abort,
         keeper: &mut K,
         plan: Plan,
-    ) -> [Seen; TURNS] {
+    ) -> Result<[Seen; TURNS], Fail> {
         let mut all = [NOTHING; TURNS];
         let mut point = (-1, -1);
         for turn in 0..TURNS {
             let seen = play(keeper, plan, turn as u8);
-            assert!(rt; seen.given == (-1, -1) || seen.given == point);
+            check(seen.given == (-1, -1) || seen.given == point)?;
             if keeper.stage().is(Stage::Pointed) && seen.moved == 0 {
                 point = seen.looks;
             }
             all[turn] = seen;
         }
-        all
+        Ok(all)
     }
 
     const OPENING: [Account; 2] = [
@@ -173,65 +179,58 @@ mod tests {
         },
     ];
 
-    fn by_calc(rt: &impl Abort, plan: Plan) -> [Seen; TURNS] {
+    fn by_calc(plan: Plan) -> Result<[Seen; TURNS], Fail> {
         let mut memory = [Calc::blank(account(0)); 2];
-        trace(rt, &mut Calc::open(&OPENING, &mut memory), plan)
+        trace(&mut Calc::open(&OPENING, &mut memory), plan)
     }
 
-    fn by_zigzag(rt: &impl Abort, plan: Plan) -> [Seen; TURNS] {
+    fn by_zigzag(plan: Plan) -> Result<[Seen; TURNS], Fail> {
         let mut memory = [Zigzag::blank(account(0)); 2];
-        trace(rt, &mut Zigzag::open(&OPENING, &mut memory), plan)
+        trace(&mut Zigzag::open(&OPENING, &mut memory), plan)
     }
 
-    fn by_ping_pong(rt: &impl Abort, plan: Plan) -> [Seen; TURNS] {
+    fn by_ping_pong(plan: Plan) -> Result<[Seen; TURNS], Fail> {
         let mut memory = [PingPong::blank(account(0)); 2];
-        trace(rt, &mut PingPong::open(&OPENING, &mut memory), plan)
+        trace(&mut PingPong::open(&OPENING, &mut memory), plan)
     }
 
     // Once a quiet keeper has refused what CALC allows, only the quiet ones are compared.
-    fn agree(rt: &impl Abort, plan: Plan) -> Result<(), Fail> {
-        let calc = by_calc(rt, plan);
-        let zigzag = by_zigzag(rt, plan);
-        let ping_pong = by_ping_pong(rt, plan);
+    fn agree(plan: Plan) -> Result<(), Fail> {
+        let calc = by_calc(plan)?;
+        let zigzag = by_zigzag(plan)?;
+        let ping_pong = by_ping_pong(plan)?;
         for turn in 0..TURNS {
-            assert!(rt; zigzag[turn] == ping_pong[turn]);
+            check(zigzag[turn] == ping_pong[turn])?;
         }
         for turn in 0..TURNS {
             if calc[turn].begun != zigzag[turn].begun {
-                assert_eq!(rt; zigzag[turn].begun, 25);
-                return Ok(());
+                return check(zigzag[turn].begun == 25);
             }
-            assert!(rt; calc[turn] == zigzag[turn]);
+            check(calc[turn] == zigzag[turn])?;
         }
         Ok(())
     }
 
     // Begins in every stage of a round and on, changes then or in one of the next stages, ends then or in one of the next.
     #[test]
-    fn side_by_side(rt: HostRuntime) -> Result<(), Fail> {
+    fn side_by_side() -> Result<(), Fail> {
         for begin in 0u8..8 {
             for wait in 0u8..6 {
                 for work in 0u8..6 {
                     let change = begin + wait;
                     let end = change + work;
-                    agree(
-                        &rt,
-                        Plan {
-                            begin,
-                            change,
-                            end,
-                            commits: true,
-                        },
-                    )?;
-                    agree(
-                        &rt,
-                        Plan {
-                            begin,
-                            change,
-                            end,
-                            commits: false,
-                        },
-                    )?;
+                    agree(Plan {
+                        begin,
+                        change,
+                        end,
+                        commits: true,
+                    })?;
+                    agree(Plan {
+                        begin,
+                        change,
+                        end,
+                        commits: false,
+                    })?;
                 }
             }
         }

@@ -18,7 +18,7 @@ use Rattle.keepers.specs.Stages.{same, onward, awaited, allowed}
 use Rattle.store.specs.declared.cells.Cell.{Cell}
 use Rattle.store.specs.CellRules.{pointed_cell, committed_of, named_of, due_of}
 use Rattle.store.specs.States.{State, meaning}
-use Rattle.store.specs.Steps.{moved_on, called, waits, turned as Turned-on}
+use Rattle.store.specs.Steps.{moved_on, called, waits, turned as turned_on}
 use Rattle.store.specs.Validity.{part, Sits, Counts, Valid}
 use Rattle.store.proofs.Altering.{nth_below}
 use Rattle.store.proofs.Judging.{Shows, refines}
@@ -211,29 +211,29 @@ module _ {L O : Type 0} (m : Method L O) (sound : Clock → Bool → Option Stag
         )
 
   module _ (cells : List (Cell L O)) (seats : List (Option Hand)) (odd sense : Bool) (given : ℕ) where
-    abbrev before-point : State L O
-    before-point = record { cells = cells; seats = seats; clock = record { stage = Called; odd = odd; sense = sense }; given = given }
+    abbrev before_point : State L O
+    before_point = record { cells = cells; seats = seats; clock = record { stage = Called; odd = odd; sense = sense }; given = given }
 
     abbrev after_point : State L O
-    after_point = record { cells = map (pointed_cell m) cells; seats = seats; clock = ticked before-point.clock; given = 0 }
+    after_point = record { cells = map (pointed_cell m) cells; seats = seats; clock = ticked before_point.clock; given = 0 }
 
     -- where the method does not sweep, its rule alters no cell
-    swept : moved_on m before-point ≡ after_point
+    swept : moved_on m before_point ≡ after_point
     swept = elim (cases_Bool m.sweeps) [
       | inl sweeps ↦ rw sweeps
-      | inr quiet ↦ rw quiet (ap (λ xs. record { cells = xs; seats = seats; clock = ticked before-point.clock; given = 0 })
+      | inr quiet ↦ rw quiet (ap (λ xs. record { cells = xs; seats = seats; clock = ticked before_point.clock; given = 0 })
           (sym (map_same (pointed_cell m) (λ x. x) cells (λ j x there. ap (λ o. record { own = o; holder = x.holder; before = x.before }) (law.still quiet x.own)) ∙ map-id cells)))
     ]
 
-    module _ (v : Valid m sound f before-point) (then_open : (s : ℕ) → began_in m.quiet Pointed (option_map (λ w. w.began) (get_or seats s None)) ≡ true) where
+    module _ (v : Valid m sound f before_point) (then_open : (s : ℕ) → began_in m.quiet Pointed (option_map (λ w. w.began) (get_or seats s None)) ≡ true) where
       shown : (j : ℕ) (x : Cell L O) → slice_get cells j ≡ Some x
           → (committed_of m (pointed_cell m x) ≡ committed_of m x) × (named_of m after_point.clock (pointed_cell m x) ≡ false)
-          × (due_of m after_point.clock (pointed_cell m x) ≡ record { line = committed_of m x; named = named_of m before-point.clock x })
+          × (due_of m after_point.clock (pointed_cell m x) ≡ record { line = committed_of m x; named = named_of m before_point.clock x })
           × Sits m sound f seats after_point.clock true j (m.pointed x.own) x.holder x.before
       shown j x there =
           let not_due : leb given j ≡ false = let inside = nth_below cells j x there in let all : given ≡ length cells = v.counts in lt-leb given j (omega arith) in
-          pointed_kept seats before-point.clock j x.own x.before refl v.began then_open x.holder
-          (subst (λ b. Sits m sound f seats before-point.clock b j x.own x.holder x.before) not_due (v.sits j x there))
+          pointed_kept seats before_point.clock j x.own x.before refl v.began then_open x.holder
+          (subst (λ b. Sits m sound f seats before_point.clock b j x.own x.holder x.before) not_due (v.sits j x there))
 
       valid_point : Valid m sound f after_point
       valid_point = record {
@@ -248,17 +248,17 @@ module _ {L O : Type 0} (m : Method L O) (sound : Clock → Bool → Option Stag
             (subst (λ b. Sits m sound f seats after_point.clock b j (m.pointed x.0.own) x.0.holder x.0.before) due (shown j x.0 x.1).3);
       }
 
-      meaning-point : turned (meaning m before-point) ≡ meaning m after_point
+      meaning-point : turned (meaning m before_point) ≡ meaning m after_point
       meaning-point =
           let lines = map-map (committed_of m) (pointed_cell m) cells ∙ map_same (λ x. committed_of m (pointed_cell m x)) (committed_of m) cells (λ j x there. (shown j x there).0) in
           let named = map-map (named_of m after_point.clock) (pointed_cell m) cells
           ∙ map_same (λ x. named_of m after_point.clock (pointed_cell m x)) (λ x. false) cells (λ j x there. (shown j x there).1) in
           let due = map-map (due_of m after_point.clock) (pointed_cell m) cells
-          ∙ map_same (λ x. due_of m after_point.clock (pointed_cell m x)) (λ x. record { line = committed_of m x; named = named_of m before-point.clock x }) cells (λ j x there. (shown j x there).2) in
-          rw (lines, named, due, map-map (λ (b : Bool). false) (named_of m before-point.clock) cells, points-map (committed_of m) (named_of m before-point.clock) cells)
+          ∙ map_same (λ x. due_of m after_point.clock (pointed_cell m x)) (λ x. record { line = committed_of m x; named = named_of m before_point.clock x }) cells (λ j x there. (shown j x there).2) in
+          rw (lines, named, due, map-map (λ (b : Bool). false) (named_of m before_point.clock) cells, points-map (committed_of m) (named_of m before_point.clock) cells)
 
-      moves_point : Valid m sound f (moved_on m before-point) × (turned (meaning m before-point) ≡ meaning m (moved_on m before-point))
-      moves_point = subst (λ u. Valid m sound f u × (turned (meaning m before-point) ≡ meaning m u)) (sym swept) (valid_point, meaning-point)
+      moves_point : Valid m sound f (moved_on m before_point) × (turned (meaning m before_point) ≡ meaning m (moved_on m before_point))
+      moves_point = subst (λ u. Valid m sound f u × (turned (meaning m before_point) ≡ meaning m u)) (sym swept) (valid_point, meaning-point)
 
   -- any turn
   moves : (g : Stage) (cells : List (Cell L O)) (seats : List (Option Hand)) (odd sense : Bool) (given : ℕ)
@@ -286,7 +286,7 @@ module _ {L O : Type 0} (m : Method L O) (sound : Clock → Bool → Option Stag
         omega arith
 
     module _ (v : Valid m sound f t) where
-      pub turns_shown : (r : Result (Unit {0}) KeeperFault) (u : State L O) → Turned-on m t ≡ (r, u) → Shows (meaning m) (Valid m sound f) r u (turns (meaning m t))
+      pub turns_shown : (r : Result (Unit {0}) KeeperFault) (u : State L O) → turned_on m t ≡ (r, u) → Shows (meaning m) (Valid m sound f) r u (turns (meaning m t))
       turns_shown r u is =
           refines (meaning m) (Valid m sound f) (first ((same t.clock.stage Rest, AtRest) ∷ []) (waits t)) (first ((same t.clock.stage Rest, AtRest) ∷ []) (waiting (meaning m t))) tt
           (moved_on m t) t (turned (meaning m t)) (rw waiting-same) v

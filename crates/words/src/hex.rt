@@ -1,7 +1,7 @@
 // Words as bytes in hexadecimal.
 ghost use Rattle.std.specs.Prelude.{◌≡◌, IfOk, vec_items};
 ghost use Rattle.std.specs.Option.{option_map};
-ghost use Rattle.words.specs.Hex.{hex, pairs, byte as byte_of, nibble as nibble-of};
+ghost use Rattle.words.specs.Hex.{hex, pairs, byte as byte_of, nibble as nibble_of};
 
 use std::alloc::{AllocError, Global};
 
@@ -46,7 +46,7 @@ fn byte(c: u8, d: u8) -> Option<u8>
 }
 
 fn nibble(c: u8) -> Option<u8>
-    ensures { result ≡ nibble-of c }
+    ensures { result ≡ nibble_of c }
 {
     match c {
         b'0'..=b'9' => Some(c - b'0'),

@@ -1,6 +1,6 @@
 // The store as a keeper.
 ghost use Rattle.store.specs.CellRules.{fresh_cell};
-ghost use Rattle.store.specs.States.{state, meaning as meaning-of};
+ghost use Rattle.store.specs.States.{state, meaning as meaning_of};
 ghost use Rattle.store.specs.Validity.{Valid as ValidState};
 
 use super::Store;
@@ -22,7 +22,7 @@ impl<'a, R: Rules> Keeper<'a> for Store<'a, R> {
 
     ghost quiet = { R.Rules.method.quiet };
 
-    ghost meaning = { λ s. meaning-of R.Rules.method (state s) };
+    ghost meaning = { λ s. meaning_of R.Rules.method (state s) };
 
     ghost blank = { fresh_cell R.Rules.method };
 

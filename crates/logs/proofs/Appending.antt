@@ -1,51 +1,67 @@
 -- One entry appended to a byte log.
-use Rattle.std.proofs.Common.{◌≡◌, ℕ, ◌+◌, ◌-◌, ◌<◌, ◌≤◌, true, false, leb, List, [], ◌∷◌, ◌++◌, length, take, drop, Some, None, Ok, Err, sym, refl, ap, ◌∙◌, inl, inr, arith}
-use Rattle.std.proofs.lemmas.List.{length-append, length-take-le, length-drop, length_push, take_at}
-use Rattle.std.proofs.lemmas.Bool.{cases_Bool, le-leb, lt-leb}
-use Rattle.lines.specs.Bytes.{room, put}
-use Rattle.records.proofs.CommandValues.{command-lawful}
-use Rattle.records.proofs.Framed.{length-framed}
-use Rattle.records.proofs.OneNumber.{mark-lawful}
-use Rattle.records.specs.Commands.{command_record}
-use Rattle.records.specs.Numbers.{mark_record}
+use Rattle.std.proofs.Common.{◌≡◌, ℕ, ◌+◌, ◌-◌, ◌<◌, ◌≤◌, true, false, List, [], ◌∷◌, ◌++◌, length, take, drop, Some, None, Ok, Err, sym, ap, ◌∙◌, inl, inr, arith}
+use borrow.Rule.Slice.PartMut.{put_mid, put_same}
+use mathlib.Core.HLevel.{is_prop→PathP}
+use mathlib.Core.List.{is_set}
+use native.Mathlib.Bridge.{le_prop}
+use native.Mathlib.Nat.{ℕ_set}
+use Rattle.std.proofs.lemmas.List.{append_assoc, drop-append-le, drop-drop, length-append, length-take-le, length-drop, length_push, take-append-drop}
+use Rattle.std.proofs.lemmas.Bool.{cases_lt, le-leb, lt-leb}
+use Rattle.lines.specs.Bytes.{overwritten, put, room}
+use Rattle.lines.proofs.Payloads.{put_fits, put-short}
+use Rattle.logs.specs.declared.byte_log.ByteLog.{ByteLog}
 use Rattle.logs.specs.declared.entries.Entry.{Entry}
-use Rattle.logs.specs.declared.entries.Entry.TheVariants.{Command, Mark}
 use Rattle.logs.specs.declared.faults.LogFault.TheVariants.{Full}
-use Rattle.logs.specs.ByteLogs.{byte_capacity, log_in, overwritten}
-use Rattle.logs.specs.ByteLaws.{cost_least}
+use Rattle.logs.specs.ByteLogs.{byte_capacity, log_in}
 use Rattle.logs.specs.Logs as logs
 use Rattle.logs.specs.RecordRuns.{entry_bytes, entry_fits, byte_cost, written, entries_in}
 use Rattle.logs.proofs.ByteRuns.{used_spent, appended_bytes, appended_entries}
+use Rattle.logs.proofs.Runs.{entries_few}
 
--- no log record is longer than 32 bytes
-pub cost_most : (e : Entry) → entry_fits e ≡ true → byte_cost e ≤ 32
-cost_most (Command c) fits = omega (arith, length-framed 4 (command_record.body c), command-lawful.short c fits)
-cost_most (Mark point) fits = omega (arith, length-framed 5 (mark_record.body point), mark-lawful.short point fits)
+-- a writer that was lent the memory m from `used` up to `end`
+module _ (m : List ℕ) (used end : ℕ) (order : used ≤ end) (inside : end ≤ length m) (bs : List ℕ) where
+  abbrev part : List ℕ
+  part = take (end - used) (drop used m)
 
--- there are no more entries than bytes
-entries_few : (es : List Entry) → length es ≤ logs.spent byte_cost es
-entries_few [] = omega arith
-entries_few (e ∷ es) = omega (arith, cost_least e, entries_few es)
+  long : length part ≡ end - used
+  long = length-take-le (end - used) (drop used m) (omega (arith, length-drop used m))
 
--- a record that was written into a buffer is its front
-pub in_buffer : (bs m out : List ℕ) (n : ℕ) → Some n ≡ room bs m → out ≡ put bs m → (n ≡ length bs) × (take n out ≡ bs)
-in_buffer bs m out n r o = elim (cases_Bool (leb (length bs) (length m))) [
-  | inl t ↦
-      let e : Some n ≡ Some (length bs) = rw t at r in
-      let same : n ≡ length bs = cc in
-      (same, rw (o, t, same, take_at bs (drop (length bs) m) (length bs) refl))
-  | inr f ↦ let e : Some n ≡ None = rw f at r in let z : ◌≡◌ {A = ℕ} 0 1 = cc in absurd (omega arith)
-]
+  -- where the bytes do not fit, the memory is as it was
+  pub none_written : None ≡ room bs part → (end < used + length bs) × (put_mid used (end - used) m (put bs part) ≡ m)
+  none_written h = elim (cases_lt (length part) (length bs)) [
+    | inl short ↦ (omega (arith, long), rw (put-short bs part short).1 (put_same used (end - used) m))
+    | inr fits ↦ let e : None ≡ Some (length bs) = h ∙ (put_fits bs part fits).0 in let z : ◌≡◌ {A = ℕ} 0 1 = cc in absurd (omega arith)
+  ]
 
-pub no_buffer : (bs m : List ℕ) → None ≡ room bs m → length bs ≤ length m → ⊥
-no_buffer bs m r h = let e : None ≡ Some (length bs) = rw (le-leb (length bs) (length m) h) at r in let z : ◌≡◌ {A = ℕ} 0 1 = cc in omega arith
+  -- else they stand behind what is used
+  pub all_written : (n : ℕ) → Some n ≡ room bs part → (n ≡ length bs) × (used + length bs ≤ end) × (put_mid used (end - used) m (put bs part) ≡ overwritten m used bs)
+  all_written n h = elim (cases_lt (length part) (length bs)) [
+    | inl short ↦ let e : Some n ≡ None = h ∙ (put-short bs part short).0 in let z : ◌≡◌ {A = ℕ} 0 1 = cc in absurd (omega arith)
+    | inr fits ↦
+        let e : Some n ≡ Some (length bs) = h ∙ (put_fits bs part fits).0 in
+        let rest = drop used m in
+        let behind : drop (length bs) part ++ drop (end - used) rest ≡ drop (length bs) rest = rw (← drop-append-le (length bs) part (drop (end - used) rest) fits, take-append-drop (end - used) rest) in
+        (cc, omega (arith, long), rw ((put_fits bs part fits).1, append_assoc bs (drop (length bs) part) (drop (end - used) rest), behind, drop-drop (length bs) used m))
+  ]
+
+-- two logs with the same memory, the same length and the same count are the same
+pub same_log : (a b : ByteLog) → a.memory ≡ b.memory → a.used ≡ b.used → a.count ≡ b.count → a ≡ b
+same_log a b memory used count = λ i. record {
+  memory = memory i;
+  used = used i;
+  count = count i;
+  inside = is_prop→PathP (λ j. used j ≤ length (memory j).now) (λ j. le_prop) a.inside b.inside i;
+  few = is_prop→PathP (λ j. used j ≤ 65536) (λ j. le_prop) a.few b.few i;
+  whole = is_prop→PathP (λ j. written (entries_in (take (used j) (memory j).now)) ≡ take (used j) (memory j).now) (λ j. is_set ℕ_set (written (entries_in (take (used j) (memory j).now))) (take (used j) (memory j).now)) a.whole b.whole i;
+  counted = is_prop→PathP (λ j. count j ≡ length (entries_in (take (used j) (memory j).now))) (λ j. ℕ_set (count j) (length (entries_in (take (used j) (memory j).now)))) a.counted b.counted i;
+}
 
 module _ (m : List ℕ) (used count : ℕ) (inside : used ≤ length m) (whole : written (entries_in (take used m)) ≡ take used m) (counted : count ≡ length (entries_in (take used m))) (e : Entry) where
   pub count_few : count ≤ used
   count_few = omega (arith, entries_few (entries_in (take used m)), used_spent m used inside whole)
 
   -- where there is no room for its record
-  pub append_full : byte_capacity m - used < byte_cost e
+  pub append_full : byte_capacity m < used + byte_cost e
       → (logs.verdict byte_cost (log_in m used) e ≡ Err (Full count)) × (logs.append byte_cost (log_in m used) e ≡ log_in m used)
   append_full h =
       let none : logs.room byte_cost (log_in m used) e ≡ false = lt-leb _ _ (omega (arith, used_spent m used inside whole)) in

@@ -4,7 +4,7 @@ use Rattle.std.proofs.ByRecursion.{All-push}
 use Rattle.std.proofs.lemmas.List.{append-nil, append_assoc, length-append, length-take, length-take-le, take_at, take-take, flat_map_more}
 use Rattle.std.specs.List.{AllByRecursion}
 use Rattle.logs.specs.declared.entries.Entry.{Entry}
-use Rattle.logs.specs.ByteLogs.{overwritten}
+use Rattle.lines.specs.Bytes.{overwritten}
 use Rattle.logs.specs.Logs.{spent}
 use Rattle.logs.specs.ByteLaws.{length_written}
 use Rattle.logs.specs.RecordRuns.{entry_bytes, entry_fits, byte_cost, written, entries_in, LongestRun}

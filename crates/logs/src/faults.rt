@@ -12,11 +12,11 @@ pub enum LogFault {
     Unlawful(usize),
 }
 
-impl LogFault {
-    pub fn refusal(self) -> Refusal
-        ensures { result ≡ refusal self }
-    {
-        match self {
+impl From<LogFault> for Refusal {
+    ghost from_gives = { λ fault r. r ≡ refusal fault };
+
+    fn from(fault: LogFault) -> Refusal {
+        match fault {
             LogFault::Full(entries) => Refusal {
                 number: 26,
                 layer: Layer::Log,

@@ -50,11 +50,7 @@ impl<'a> Log for EntryLog<'a> {
     }
 
     fn get(&self, i: usize) -> Option<Entry> {
-        if i < self.count {
-            Some(self.memory[i])
-        } else {
-            None
-        }
+        self.memory[..self.count].get(i).copied()
     }
 
     fn count(&self) -> usize {

@@ -1,6 +1,6 @@
 use Rattle.std.proofs.Common.{◌≡◌, min, length, take, sym, ap, ◌∙◌, arith}
 use Rattle.std.proofs.lemmas.List.{length-take-le, take-take}
-use Rattle.logs.specs.ByteLogs.{byte_capacity}
+use Rattle.logs.specs.ByteLogs.{byte_capacity, byte_log}
 use Rattle.logs.specs.RecordRuns.{entries_in, written}
 use Rattle.logs.proofs.ByteRuns.{fit}
 use Rattle.logs.proofs.Cutting.{entries_cut}
@@ -12,6 +12,5 @@ returns-clause-cuts c = λ u h.
     let m = log.memory.now in
     let long : length c.records.result.now ≡ log.used = ap length c.records.ensures ∙ length-take-le log.used m log.inside in
     let part : min u (byte_capacity m) ≡ u = omega (arith, log.inside, log.few) in
-    let es = entries_in (take log.used m) in
-    let bytes : take u m ≡ take u (written es) = sym (take-take u log.used m (omega (arith, h, long))) ∙ ap (take u) (sym log.whole) in
-    rw part (ap entries_in bytes ∙ entries_cut es u (fit m log.used log.inside log.whole))
+    let bytes : take u m ≡ take u (written (byte_log log).entries) = sym (take-take u log.used m (omega (arith, h, long))) ∙ ap (take u) (sym log.whole) in
+    rw part (ap entries_in bytes ∙ entries_cut (byte_log log).entries u (fit log))

@@ -1,42 +1,32 @@
-use Rattle.std.proofs.Common.{◌≡◌, ◌+◌, ◌≤◌, sym, refl, ap, arith, rules}
+use Rattle.std.proofs.Common.{◌≤◌, ◌+◌, refl, ap, arith, rules}
 use borrow.Rule.Slice.Mut.{set_vals}
-use Rattle.logs.specs.RecordRuns.{entry_bytes, byte_cost}
-use Rattle.logs.proofs.Appending.{none_written, all_written, same_log, count_few, append_full, append-room, append-sound}
+use Rattle.logs.specs.ByteLaws.{used_spent}
+use Rattle.logs.specs.ByteLogs.{byte_log}
+use Rattle.logs.proofs.Appending.{refused, accepted, same_log}
+use Rattle.logs.proofs.Runs.{entries_few}
 use Rattle.logs.proofs.byte_log.calls.ByteLogLog.append.Goals as goal
 
 pub returns-in_default : goal.returns-in_default
 returns-in_default c =
     let log = c.args.self.now in
     let wrote = c.in_default.ensures in
-    let none = none_written log.memory.now log.used c.min-end.result (omega arith) (omega arith) (entry_bytes c.args.entry) wrote.answer in
-    let full = append_full log.memory.now log.used log.count log.inside log.whole log.counted c.args.entry (omega (arith, none.0, c.min-end.ensures)) in
-    let same = rw (← wrote.after) at none.1 in
-    record { answer = sym full.0; state = rw same (sym full.1); same = same_log _ _ (ap (λ x. set_vals x log.memory) same) refl refl; memory = same }
+    let none = refused log c.args.entry c.min-end.result c.min-end.ensures c.write_entry.new.out wrote.answer wrote.after in
+    record { answer = none.answer; state = none.state; same = same_log _ _ (ap (λ x. set_vals x log.memory) none.memory) refl refl; memory = none.memory }
 
 pub overflow_add-self-2 : goal.overflow_add-self-2
 overflow_add-self-2 c =
     let log = c.args.self.now in
-    let few = count_few log.memory.now log.used log.count log.inside log.whole log.counted c.args.entry in
-    let small : log.count + 1 ≤ 65537 = omega (arith, log.few) in
+    let small : log.count + 1 ≤ 65537 = omega (arith, log.few, log.counted, used_spent log, entries_few (byte_log log).entries) in
     search rules
 
 pub invariant_of-self-2 : goal.invariant_of-self-2
 invariant_of-self-2 c =
-    let log = c.args.self.now in
-    let e = c.args.entry in
     let wrote = c.in-Some.ensures in
-    let all = all_written log.memory.now log.used c.min-end.result (omega arith) (omega arith) (entry_bytes e) c.in-Some.len wrote.answer in
-    let sound = append-sound log.memory.now log.used log.count log.inside log.whole log.counted e wrote.fits (omega (arith, all.1, c.min-end.ensures)) _ (rw (← wrote.after) at all.2) in
-    let used : log.used + c.in-Some.len ≡ log.used + byte_cost e = omega (arith, all.0) in
-    record { inside = rw used sound.0; few = rw used sound.1; whole = rw used sound.2; counted = rw used sound.3 }
+    let all = accepted c.args.self.now c.args.entry c.min-end.result c.min-end.ensures c.write_entry.new.out c.in-Some.len wrote.answer wrote.after wrote.fits in
+    record { inside = all.inside; few = all.few; whole = all.whole; counted = all.counted }
 
 pub returns : goal.returns
 returns c =
-    let log = c.args.self.now in
-    let e = c.args.entry in
     let wrote = c.in-Some.ensures in
-    let all = all_written log.memory.now log.used c.min-end.result (omega arith) (omega arith) (entry_bytes e) c.in-Some.len wrote.answer in
-    let after = rw (← wrote.after) at all.2 in
-    let added = append-room log.memory.now log.used log.count log.inside log.whole log.counted e wrote.fits (omega (arith, all.1, c.min-end.ensures)) _ after in
-    let used : log.used + c.in-Some.len ≡ log.used + byte_cost e = omega (arith, all.0) in
-    record { answer = sym added.0; state = rw used (sym added.1); same = tt; memory = after }
+    let all = accepted c.args.self.now c.args.entry c.min-end.result c.min-end.ensures c.write_entry.new.out c.in-Some.len wrote.answer wrote.after wrote.fits in
+    record { answer = all.answer; state = all.state; same = tt; memory = all.memory }

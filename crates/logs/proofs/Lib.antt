@@ -1,6 +1,6 @@
 mod Appending
 mod ByteRuns
 mod Cutting
-mod EntryLists
+pub mod EntrySteps
 pub mod Runs
 mod Seeking

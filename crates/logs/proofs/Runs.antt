@@ -18,23 +18,32 @@ use Rattle.logs.specs.Logs.{spent}
 use Rattle.logs.specs.RecordRuns.{entry_bytes, entry_fits, byte_cost, written, or_mark, read_entry, entries_within, entries_in, LongestRun}
 use Rattle.logs.specs.Scans.{with_costs}
 
-entry_size : (bs : List ℕ) (c : Option (Changes × ℕ)) (m : Option (ℕ × ℕ)) (e : Entry) (n : ℕ) → read command_record bs ≡ c → read mark_record bs ≡ m → or_mark c m ≡ Some (e, n)
-    → (4 ≤ n) × (n ≤ length bs)
-entry_size bs None None e n rc rm h = let z : ◌≡◌ {A = ℕ} 0 1 = cc in absurd (omega arith)
-entry_size bs None (Some m) e n rc rm h =
+-- What was read is as long as its record, and is the only writing of its entry.
+record Reading (bs : List ℕ) (e : Entry) (n : ℕ) : Type 0 where
+  least : 4 ≤ n
+  most : n ≤ length bs
+  only : Bytes bs → (entry_fits e ≡ true) × (n ≡ byte_cost e) × (take n bs ≡ entry_bytes e)
+
+reading : (bs : List ℕ) (c : Option (Changes × ℕ)) (m : Option (ℕ × ℕ)) (e : Entry) (n : ℕ) → read command_record bs ≡ c → read mark_record bs ≡ m → or_mark c m ≡ Some (e, n) → Reading bs e n
+reading bs None None e n rc rm h = let z : ◌≡◌ {A = ℕ} 0 1 = cc in absurd (omega arith)
+reading bs None (Some m) e n rc rm h =
     let same : ◌≡◌ {A = Entry × ℕ} (Mark m.0, m.1) (e, n) = cc in
     let f = found mark_record bs m.0 m.1 rm in
-    let size : m.1 ≡ n = ap (λ p. p.1) same in
-    (omega arith, omega arith)
-entry_size bs (Some c) m e n rc rm h =
+    rw (← ap (λ p. p.0) same, ← ap (λ p. p.1) same) (record { least = f.0; most = f.1; only = λ typed. (one_reading mark_record bs mark-lawful typed (read mark_record bs) refl).only m.0 m.1 rm })
+reading bs (Some c) m e n rc rm h =
     let same : ◌≡◌ {A = Entry × ℕ} (Command c.0, c.1) (e, n) = cc in
     let f = found command_record bs c.0 c.1 rc in
-    let size : c.1 ≡ n = ap (λ p. p.1) same in
-    (omega arith, omega arith)
+    rw (← ap (λ p. p.0) same, ← ap (λ p. p.1) same) (record { least = f.0; most = f.1; only = λ typed. (one_reading command_record bs command-lawful typed (read command_record bs) refl).only c.0 c.1 rc })
+
+was_read : (bs : List ℕ) (e : Entry) (n : ℕ) → read_entry bs ≡ Some (e, n) → Reading bs e n
+unfolding read_entry
+was_read bs e n h = reading bs (read command_record bs) (read mark_record bs) e n refl refl h
 
 pub size_entry : (bs : List ℕ) (e : Entry) (n : ℕ) → read_entry bs ≡ Some (e, n) → (4 ≤ n) × (n ≤ length bs)
-unfolding read_entry
-size_entry bs e n h = entry_size bs (read command_record bs) (read mark_record bs) e n refl refl h
+size_entry bs e n h = ((was_read bs e n h).least, (was_read bs e n h).most)
+
+pub entry_only : (bs : List ℕ) (e : Entry) (n : ℕ) → Bytes bs → read_entry bs ≡ Some (e, n) → (entry_fits e ≡ true) × (n ≡ byte_cost e) × (take n bs ≡ entry_bytes e)
+entry_only bs e n typed h = (was_read bs e n h).only typed
 
 -- the next entry, or none
 next : (k : ℕ) (bs : List ℕ) (o : Option (Entry × ℕ)) → read_entry bs ≡ o
@@ -89,23 +98,6 @@ mark_back point rest fits typed =
 pub entry_back : (e : Entry) (rest : List ℕ) → entry_fits e ≡ true → Bytes rest → read_entry (entry_bytes e ++ rest) ≡ Some (e, byte_cost e)
 entry_back (Command c) rest fits typed = command_back c rest fits typed
 entry_back (Mark point) rest fits typed = mark_back point rest fits typed
-
--- what is read is the only writing of an entry
-only_entry : (bs : List ℕ) (c : Option (Changes × ℕ)) (m : Option (ℕ × ℕ)) (e : Entry) (n : ℕ) → Bytes bs → read command_record bs ≡ c → read mark_record bs ≡ m → or_mark c m ≡ Some (e, n)
-    → (entry_fits e ≡ true) × (n ≡ byte_cost e) × (take n bs ≡ entry_bytes e)
-only_entry bs None None e n typed rc rm h = let z : ◌≡◌ {A = ℕ} 0 1 = cc in absurd (omega arith)
-only_entry bs None (Some m) e n typed rc rm h =
-    let same : ◌≡◌ {A = Entry × ℕ} (Mark m.0, m.1) (e, n) = cc in
-    let only = (one_reading mark_record bs mark-lawful typed (read mark_record bs) refl).only m.0 m.1 rm in
-    rw (← ap (λ p. p.0) same, ← ap (λ p. p.1) same) only
-only_entry bs (Some c) m e n typed rc rm h =
-    let same : ◌≡◌ {A = Entry × ℕ} (Command c.0, c.1) (e, n) = cc in
-    let only = (one_reading command_record bs command-lawful typed (read command_record bs) refl).only c.0 c.1 rc in
-    rw (← ap (λ p. p.0) same, ← ap (λ p. p.1) same) only
-
-pub entry_only : (bs : List ℕ) (e : Entry) (n : ℕ) → Bytes bs → read_entry bs ≡ Some (e, n) → (entry_fits e ≡ true) × (n ≡ byte_cost e) × (take n bs ≡ entry_bytes e)
-unfolding read_entry
-entry_only bs e n typed h = only_entry bs (read command_record bs) (read mark_record bs) e n typed refl refl h
 
 pub bytes_entry : (e : Entry) → Bytes (entry_bytes e)
 bytes_entry (Command c) = bytes-framed 4 (command_record.body c) (command-lawful.bytes c)

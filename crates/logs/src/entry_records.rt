@@ -19,6 +19,7 @@ pub fn write_entry(out: &mut [u8], entry: Entry) -> Option<usize>
 }
 
 // The entry whose record `bytes` begin with, and the record's length.
+#[tactic(auto, unfolding(crate::specs::RecordRuns::read_entry))]
 pub fn read_entry(bytes: &[u8]) -> Option<(Entry, usize)>
     ensures answer { result ≡ read_entry bytes.now }
     ensures len { IfSome result (λ p. p.1 ≡ byte_cost p.0) }

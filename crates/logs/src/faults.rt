@@ -4,7 +4,7 @@ ghost use Rattle.logs.specs.Faults.{refusal};
 
 use lines::faults::{Layer, Refusal};
 
-#[derive(Clone, Copy, PartialEq, Eq)]
+#[derive(Clone, Copy, Debug, PartialEq, Eq)]
 pub enum LogFault {
     // There is no room for the entry; holds how many entries there are.
     Full(usize),

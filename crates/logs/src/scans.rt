@@ -22,6 +22,7 @@ impl<'a> Iterator for Records<'a> {
 
     ghost remaining = { item_count records_left };
 
+    #[tactic(auto, using(crate::proofs::Runs::entries_none))]
     fn next(&mut self) -> Option<(Entry, usize)> {
         let (entry, len) = read_entry(self.rest)?;
         self.rest = &self.rest[len..];

@@ -59,7 +59,10 @@ mod tests {
         assert!(rt; EntryLog::open(&mut none).append(Entry::Mark(1)) == Err(LogFault::Full(0)));
         let mut short = [0u8; 3];
         let mut log = ByteLog::open(&mut short, 3);
-        assert_eq!(rt; log.append(Entry::Command(command(0))), Err(LogFault::Full(0)));
+        assert_eq!(rt;
+            log.append(Entry::Command(command(0))),
+            Err(LogFault::Full(0))
+        );
         assert_eq!(rt; log.len(), 0);
         assert!(rt; ByteLog::check(&short, 3) == Err(LogFault::Unlawful(0)));
     }
@@ -88,7 +91,10 @@ mod tests {
         let mut log = ByteLog::open(&mut memory, 0);
         assert!(rt; log.append(Entry::Command(command(1))).is_ok());
         assert!(rt; log.append(Entry::Mark(7)).is_ok());
-        assert_eq!(rt; log.append(Entry::Command(command(0))), Err(LogFault::Full(2)));
+        assert_eq!(rt;
+            log.append(Entry::Command(command(0))),
+            Err(LogFault::Full(2))
+        );
         assert_eq!(rt; log.len(), 19);
         assert!(rt; log.get(1) == Some(Entry::Mark(7)));
         assert!(rt; log.get(2).is_none());

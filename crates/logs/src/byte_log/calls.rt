@@ -89,6 +89,7 @@ impl<'a> Log for ByteLog<'a> {
         Ok(())
     }
 
+    #[tactic(auto, unfolding(crate::specs::RecordRuns::entries_in))]
     fn empty(&mut self)
         ensures state { byte_log self.new ≡ emptied (byte_log self.old) }
         ensures memory { self.new.memory.now ≡ self.old.memory.now }

@@ -1,13 +1,7 @@
-use Rattle.std.proofs.Common.{length, sym, ap, rules}
+use Rattle.std.proofs.Common.{length, ap, rules}
 use Rattle.std.proofs.lemmas.List.{take_rest}
-use Rattle.logs.specs.Scans.{with_costs}
-use Rattle.logs.proofs.Runs.{next_record, entries_none}
+use Rattle.logs.proofs.Runs.{next_record}
 use Rattle.logs.proofs.scans.RecordsIterator.next.Goals as goal
-
-pub returns-in_err-entry-clause-steps : goal.returns-in_err-entry-clause-steps
-returns-in_err-entry-clause-steps c =
-    let none = ap with_costs (entries_none c.args.self.now.rest.now (sym c.in_err-entry.ensures.answer)) in
-    rw c.from_residual.ensures (none, none)
 
 pub returns-clause-steps : goal.returns-clause-steps
 returns-clause-steps c =

@@ -24,9 +24,9 @@ same_entry (Some e) = refl
 -- what `nth` gives
 pub nth_entry : (r : Option (Entry × ℕ)) (s t : Records) (i : ℕ)
     → ((xs : List (Entry × ℕ)) × YieldsThen (YieldsFirst records_left) s xs r t × MatchOption r (length xs ≤ i) (λ _. length xs ≡ i))
-    → option_map entry_of r ≡ slice_get (entries_in s.rest.now) i
+    → option_map entry_of r ≡ slice_get (entries_in s.0.now) i
 nth_entry r s t i ran =
-    let es = entries_in s.rest.now in
+    let es = entries_in s.0.now in
     let left = nth_from_yields_List {v = λ x. x} r t i ran (YieldsList-from_first (λ x. x) records_left (records_left s) refl) in
     let there : r ≡ slice_get (with_costs es) i = sym (option_map_id r) ∙ left in
     rw (there, slice_get-map with_cost es i) (same_entry (slice_get es i))

@@ -11,4 +11,4 @@ abbrev pub with_costs : List Entry → List (Entry × ℕ)
 with_costs es = map (λ e. (e, byte_cost e)) es
 
 abbrev pub records_left : Records → List (Entry × ℕ)
-records_left r = with_costs (entries_in r.rest.now)
+records_left r = with_costs (entries_in r.0.now)

@@ -6,11 +6,9 @@ ghost use Rattle.logs.specs.RecordRuns.{entries_in, byte_cost, LongestRun};
 use crate::entries::Entry;
 use crate::entry_records::read_entry;
 
-// The entries of the longest run of whole lawful log records at the front of `rest`, each with the length of its record.
+// The entries of the longest run of whole lawful log records at the front of bytes, each with the length of its record.
 #[derive(Drop)]
-pub(crate) struct Records<'a> {
-    pub(crate) rest: &'a [u8],
-}
+pub(crate) struct Records<'a>(pub(crate) &'a [u8]);
 
 impl<'a> Iterator for Records<'a> {
     ghost use Rattle.std.specs.Iterator.{YieldsFirst, item_count};
@@ -24,8 +22,8 @@ impl<'a> Iterator for Records<'a> {
 
     #[tactic(auto, using(crate::proofs::Runs::entries_none))]
     fn next(&mut self) -> Option<(Entry, usize)> {
-        let (entry, len) = read_entry(self.rest)?;
-        self.rest = &self.rest[len..];
+        let (entry, len) = read_entry(self.0)?;
+        self.0 = &self.0[len..];
         Some((entry, len))
     }
 }
@@ -44,7 +42,7 @@ pub fn scan(bytes: &[u8]) -> Run
     ensures longest { LongestRun bytes.now (entries_in bytes.now) }
 {
     let mut run = Run { count: 0, len: 0 };
-    for (_, len) in (Records { rest: bytes }) {
+    for (_, len) in Records(bytes) {
         run.count += 1;
         run.len += len;
     }

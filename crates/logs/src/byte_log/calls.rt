@@ -56,11 +56,11 @@ impl<'a> ByteLog<'a> {
         ensures reopens { opened self.now.memory.now result ≡ byte_log self.now }
         ensures cuts { (u : ℕ) → u ≤ result → (opened self.now.memory.now u).entries ≡ fitting u (byte_log self.now).entries }
     {
-        self.records().len()
+        self.bytes().len()
     }
 
     // The bytes that are used: the log's records.
-    fn records(&self) -> &[u8]
+    fn bytes(&self) -> &[u8]
         ensures { result.now ≡ take self.now.used self.now.memory.now }
     {
         &self.memory[..self.used]
@@ -99,10 +99,7 @@ impl<'a> Log for ByteLog<'a> {
     }
 
     fn get(&self, i: usize) -> Option<Entry> {
-        let (entry, _) = Records {
-            rest: self.records(),
-        }
-        .nth(i)?;
+        let (entry, _) = Records(self.bytes()).nth(i)?;
         Some(entry)
     }
 

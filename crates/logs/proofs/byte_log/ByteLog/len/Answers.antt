@@ -10,7 +10,7 @@ pub returns-clause-cuts : goal.returns-clause-cuts
 returns-clause-cuts c = λ u h.
     let log = c.args.self.now in
     let m = log.memory.now in
-    let long : length c.records.result.now ≡ log.used = ap length c.records.ensures ∙ length-take-le log.used m log.inside in
+    let long : length c.bytes.result.now ≡ log.used = ap length c.bytes.ensures ∙ length-take-le log.used m log.inside in
     let part : min u (byte_capacity m) ≡ u = omega (arith, log.inside, log.few) in
     let bytes : take u m ≡ take u (written (byte_log log).entries) = sym (take-take u log.used m (omega (arith, h, long))) ∙ ap (take u) (sym log.whole) in
     rw part (ap entries_in bytes ∙ entries_cut (byte_log log).entries u (fit log))

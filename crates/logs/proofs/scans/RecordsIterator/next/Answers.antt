@@ -5,7 +5,7 @@ use Rattle.logs.proofs.scans.RecordsIterator.next.Goals as goal
 
 pub returns-clause-steps : goal.returns-clause-steps
 returns-clause-steps c =
-    let bs = c.args.self.now.rest.now in
+    let bs = c.args.self.now.0.now in
     rw (take_rest bs c.in_ok-entry.len) (next_record bs _ _ c.in_ok-entry.ensures.len c.in_ok-entry.ensures.answer)
 
 pub returns-clause-goes : goal.returns-clause-goes

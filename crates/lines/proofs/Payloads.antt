@@ -1,5 +1,5 @@
 -- What every payload of two numbers owes: that it is written whole, and that it has one reading.
-use Rattle.std.proofs.Common.{◌≡◌, ℕ, ◌+◌, ◌^◌, ◌<◌, ◌≤◌, Bool, true, cond, ◌&&◌, eqb, List, [], ◌∷◌, ◌++◌, length, take, drop, Some, None, Option, sym, refl, ap, ◌∙◌, inl, inr, arith}
+use Rattle.std.proofs.Common.{◌≡◌, ℕ, ◌+◌, ◌-◌, ◌^◌, ◌<◌, ◌≤◌, Bool, true, cond, ◌&&◌, eqb, List, [], ◌∷◌, ◌++◌, length, take, drop, Some, None, Option, sym, refl, ap, ◌∙◌, inl, inr, arith}
 use borrow.Rule.Slice.PartMut.{put_mid}
 use Rattle.std.proofs.ByRecursion.{All-append, All-take, All-drop}
 use Rattle.std.proofs.lemmas.List.{length-append, length-take, length-drop, take_at, drop_at, take-append-drop, append_assoc, append-nil, drop_all, drop-drop}
@@ -145,3 +145,14 @@ pub put_whole : (bs m : List ℕ) → length bs ≡ length m → put bs m ≡ bs
 put_whole bs m e =
     let none : drop (length bs) m ≡ [] = drop_all (length bs) m (omega arith) in
     (put_fits bs m (omega arith)).1 ∙ rw none (append-nil bs)
+
+-- bytes put behind others that were put at the front of memory
+pub put_behind : (n : ℕ) (front body m : List ℕ) → length front ≡ n → n + length body ≤ length m
+    → put_mid n (length (put front m) - n) (put front m) (put body (drop n (put front m))) ≡ put (front ++ body) m
+put_behind n front body m e h =
+    let first : put front m ≡ front ++ drop n m = (put_fits front m (omega arith)).1 ∙ rw e in
+    let second : put body (drop n m) ≡ body ++ drop (length body) (drop n m) = (put_fits body (drop n m) (simp length-drop (omega arith))).1 in
+    let long : length (front ++ body) ≡ n + length body = simp length-append (omega arith) in
+    let all : put (front ++ body) m ≡ (front ++ body) ++ drop (n + length body) m = (put_fits (front ++ body) m (omega arith)).1 ∙ rw long in
+    let none : drop (length (front ++ drop n m) - n) (drop n m) ≡ [] = drop_all _ (drop n m) (simp (length-append, length-drop) (omega arith)) in
+    rw (first, take_at front (drop n m) n e, drop_at front (drop n m) n e, second, none, all) (simp (append_assoc, append-nil, drop-drop))

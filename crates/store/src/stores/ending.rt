@@ -16,7 +16,7 @@ use keepers::stages::Stage;
 impl<'a, R: Rules> Table<'a, R> {
     // Lets the cell of a line go, if the seat holds it.
     fn end_cell(&mut self, line: u16, end: End, seat: u8, began: Stage)
-        ensures state { state_of self.new ≡ with_cells (alter (ended_cell R.Rules.method end (state_of self.old).clock seat began) (state_of self.old).cells line) (state_of self.old) }
+        ensures { state_of self.new ≡ with_cells (alter (ended_cell R.Rules.method end (state_of self.old).clock seat began) (state_of self.old).cells line) (state_of self.old) }
     {
         if let Ok(cell) = self.cell_at(line) {
             let cell = cell.ended(end, self.clock, seat, began);
@@ -26,7 +26,7 @@ impl<'a, R: Rules> Table<'a, R> {
 
     // The same at the line of every change of a command.
     fn end_cells(&mut self, open_seat: Open, end: End, seat: u8)
-        ensures state { state_of self.new ≡ with_cells (walk (ended_cell R.Rules.method end (state_of self.old).clock seat open_seat.began) (changes_of open_seat.command) (state_of self.old).cells) (state_of self.old) }
+        ensures { state_of self.new ≡ with_cells (walk (ended_cell R.Rules.method end (state_of self.old).clock seat open_seat.began) (changes_of open_seat.command) (state_of self.old).cells) (state_of self.old) }
     {
         let began = open_seat.began;
         for change in open_seat.command.as_slice() {

@@ -17,8 +17,8 @@ fn fill<R: Rules>(cells: &mut [Cell<R::Line, R>], opening: &[R::Line])
     requires { length cells.old ≤ length opening.now }
     ensures { cells.new ≡ map (fresh_cell R.Rules.method) (take (length cells.old) opening.now) }
 {
-    for (cell, line) in cells.iter_mut().zip(opening) {
-        *cell = Cell::<R::Line, R>::fresh(*line);
+    for (i, cell) in cells.iter_mut().enumerate() {
+        *cell = Cell::<R::Line, R>::fresh(opening[i]);
     }
 }
 

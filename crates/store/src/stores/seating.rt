@@ -49,7 +49,7 @@ impl<'a, R: Rules> Table<'a, R> {
 
     // Writes the cell of a line; where there is none, nothing. By index: what is written through a slice's `get_mut` is not known to the check.
     pub(crate) fn put_cell(&mut self, line: u16, cell: Cell<R::Line, R>)
-        ensures state { state_of self.new ≡ with_cells (slice_set (state_of self.old).cells line cell) (state_of self.old) }
+        ensures { state_of self.new ≡ with_cells (slice_set (state_of self.old).cells line cell) (state_of self.old) }
     {
         let i = usize::from(line);
         if i < self.cells.len() {

@@ -1,5 +1,6 @@
 // Call, turn, and giving out.
-ghost use Rattle.std.specs.Prelude.{◌≡◌, map};
+ghost use Rattle.std.specs.Prelude.{◌≡◌, ◌<◌, map, length, IfSome};
+ghost use Rattle.std.specs.List.{slice_get};
 ghost use Rattle.logs.specs.Logs.{Untouched};
 ghost use Rattle.keepers.specs.Calls.{Unmoved};
 ghost use Rattle.store.specs.CellRules.{pointed_cell};
@@ -7,6 +8,7 @@ ghost use Rattle.store.specs.States.{state_of};
 ghost use Rattle.store.specs.Steps.{with_cells, called, waits, turned, given_out, at_point};
 
 use super::Table;
+use crate::cells::Cell;
 use keepers::faults::KeeperFault;
 use keepers::given::Given;
 use keepers::rules::Rules;
@@ -40,7 +42,7 @@ impl<'a, R: Rules> Table<'a, R> {
 
     // The method's point, on every cell.
     fn sweep(&mut self)
-        ensures state { state_of self.new ≡ with_cells (map (pointed_cell R.Rules.method) (state_of self.old).cells) (state_of self.old) }
+        ensures { state_of self.new ≡ with_cells (map (pointed_cell R.Rules.method) (state_of self.old).cells) (state_of self.old) }
     {
         for cell in self.cells.iter_mut() {
             *cell = cell.pointed();
@@ -49,7 +51,7 @@ impl<'a, R: Rules> Table<'a, R> {
 
     // All lines are due; cells are written only where the method sweeps.
     fn pass_point(&mut self)
-        ensures state { state_of self.new ≡ at_point R.Rules.method (state_of self.old) }
+        ensures { state_of self.new ≡ at_point R.Rules.method (state_of self.old) }
     {
         if R::sweeps() {
             self.sweep();
@@ -74,6 +76,14 @@ impl<'a, R: Rules> Table<'a, R> {
         Ok(())
     }
 
+    // The cell of the line that is given out next.
+    fn next_cell(&self) -> Option<Cell<R::Line, R>>
+        ensures cell { result ≡ slice_get (state_of self.now).cells (state_of self.now).given }
+        ensures there { IfSome result (λ _. (state_of self.now).given < length (state_of self.now).cells) }
+    {
+        self.cells.get(self.given).copied()
+    }
+
     // Gives out the next line that is due; none outside Taking or past the last.
     pub fn give_out(&mut self) -> Option<Given<R::Line>>
         ensures state { given_out R.Rules.method (state_of self.old) ≡ (result, state_of self.new) }
@@ -82,11 +92,10 @@ impl<'a, R: Rules> Table<'a, R> {
         if self.clock.stage != Stage::Taking {
             return None;
         }
-        let i = self.given;
-        let cell = self.cells.get(i).copied()?;
+        let cell = self.next_cell()?;
         let given = cell.own.gives(self.clock);
-        self.cells[i] = cell.given(self.clock);
-        self.given = i + 1;
+        self.cells[self.given] = cell.given(self.clock);
+        self.given += 1;
         Some(given)
     }
 }

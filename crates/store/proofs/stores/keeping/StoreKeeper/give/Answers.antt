@@ -1,0 +1,6 @@
+use Rattle.store.specs.States.{state}
+use Rattle.store.proofs.Gives.{gives_shown}
+use Rattle.store.proofs.stores.keeping.StoreKeeper.give.Goals as goal
+
+pub returns-clause-state : goal.returns-clause-state
+returns-clause-state g c = λ v. gives_shown g.R.Rules.method g.R.Rules.sound g.met.R.Rules.lawful g.R.Line.Line.changed (state c.args.self.now) v _ _ c.give_out.ensures.state

@@ -4,7 +4,7 @@ ghost use Rattle.logs.specs.Faults.{refusal};
 
 use lines::faults::{Layer, Refusal};
 
-#[derive(Clone, Copy, PartialEq, Eq)]
+#[derive(Clone, Copy, Debug, PartialEq, Eq)]
 pub enum LogFault {
     // There is no room for the entry; holds how many entries there are.
     Full(usize),
@@ -12,11 +12,11 @@ pub enum LogFault {
     Unlawful(usize),
 }
 
-impl LogFault {
-    pub fn refusal(self) -> Refusal
-        ensures { result ≡ refusal self }
-    {
-        match self {
+impl From<LogFault> for Refusal {
+    ghost from_gives = { λ fault r. r ≡ refusal fault };
+
+    fn from(fault: LogFault) -> Refusal {
+        match fault {
             LogFault::Full(entries) => Refusal {
                 number: 26,
                 layer: Layer::Log,

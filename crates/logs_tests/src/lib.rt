@@ -26,42 +26,15 @@ mod tests {
         command
     }
 
-    // Whether an entry is there and is that command.
-    fn is_command(entry: Option<Entry>, wanted: Command) -> bool {
-        let Some(entry) = entry else {
-            return false;
-        };
-        match entry {
-            Entry::Command(command) => command == wanted,
-            Entry::Mark(_) => false,
-        }
-    }
-
-    fn is_mark(entry: Option<Entry>, wanted: u32) -> bool {
-        let Some(entry) = entry else {
-            return false;
-        };
-        match entry {
-            Entry::Command(_) => false,
-            Entry::Mark(point) => point == wanted,
-        }
-    }
-
     #[test]
-    fn round_trips(rt: HostRuntime) -> Result<(), Fail> {
+    fn round_trips(rt: HostRuntime) {
         for changes in 0u8..5 {
             let mut out = [7u8; 40];
             let entry = Entry::Command(command(changes));
-            assert_eq!(rt;
-                write_entry(&mut out, entry),
-                Some(4 + 7 * usize::from(changes))
-            );
-            let Some(found) = read_entry(&out) else {
-                return Err(Fail::new("not read"));
-            };
-            assert!(rt; is_command(Some(found.0), command(changes)));
+            let len = 4 + 7 * usize::from(changes);
+            assert_eq!(rt; write_entry(&mut out, entry), Some(len));
+            assert!(rt; read_entry(&out) == Some((entry, len)));
         }
-        Ok(())
     }
 
     #[test]
@@ -71,8 +44,8 @@ mod tests {
         assert_eq!(rt; log.count(), 0);
         assert!(rt; log.append(Entry::Mark(1)).is_ok());
         assert!(rt; log.append(Entry::Command(command(4))).is_ok());
-        assert!(rt; log.append(Entry::Mark(2)) == Err(LogFault::Full(2)));
-        assert!(rt; is_command(log.get(1), command(4)));
+        assert_eq!(rt; log.append(Entry::Mark(2)), Err(LogFault::Full(2)));
+        assert!(rt; log.get(1) == Some(Entry::Command(command(4))));
         assert!(rt; log.get(2).is_none());
         log.empty();
         assert_eq!(rt; log.count(), 0);
@@ -83,22 +56,24 @@ mod tests {
     #[test]
     fn no_capacity(rt: HostRuntime) {
         let mut none = [Entry::Mark(9); 0];
-        assert!(rt; EntryLog::open(&mut none).append(Entry::Mark(1)) == Err(LogFault::Full(0)));
+        assert_eq!(rt;
+            EntryLog::open(&mut none).append(Entry::Mark(1)),
+            Err(LogFault::Full(0))
+        );
         let mut short = [0u8; 3];
         let mut log = ByteLog::open(&mut short, 3);
-        assert!(rt; log.append(Entry::Command(command(0))) == Err(LogFault::Full(0)));
+        assert_eq!(rt;
+            log.append(Entry::Command(command(0))),
+            Err(LogFault::Full(0))
+        );
         assert_eq!(rt; log.len(), 0);
-        assert!(rt; ByteLog::check(&short, 3) == Err(LogFault::Unlawful(0)));
+        assert_eq!(rt; ByteLog::check(&short, 3), Err(LogFault::Unlawful(0)));
     }
 
-    // Marks appended until one is refused.
+    // Appends marks until one is refused, and answers how many the log holds.
     fn filled<G: Log>(log: &mut G) -> usize {
-        for point in 0u32..70_000 {
-            if log.append(Entry::Mark(point)).is_err() {
-                return log.count();
-            }
-        }
-        0
+        let _ = (0u32..70_000).try_for_each(|point| log.append(Entry::Mark(point)));
+        log.count()
     }
 
     // Memory beyond what a log may use is left alone.
@@ -108,7 +83,7 @@ mod tests {
         assert_eq!(rt; filled(&mut EntryLog::open(entries.as_mut_slice())), 4_096);
         let mut bytes = vec![in rt.alloc(); 7u8; 65_537]?;
         assert_eq!(rt; filled(&mut ByteLog::open(bytes.as_mut_slice(), 0)), 8_192);
-        assert!(rt; ByteLog::check(bytes.as_slice(), 65_537) == Ok(8_192));
+        assert_eq!(rt; ByteLog::check(bytes.as_slice(), 65_537), Ok(8_192));
         assert_eq!(rt; bytes.last().copied(), Some(7));
         Ok(())
     }
@@ -119,9 +94,12 @@ mod tests {
         let mut log = ByteLog::open(&mut memory, 0);
         assert!(rt; log.append(Entry::Command(command(1))).is_ok());
         assert!(rt; log.append(Entry::Mark(7)).is_ok());
-        assert!(rt; log.append(Entry::Command(command(0))) == Err(LogFault::Full(2)));
+        assert_eq!(rt;
+            log.append(Entry::Command(command(0))),
+            Err(LogFault::Full(2))
+        );
         assert_eq!(rt; log.len(), 19);
-        assert!(rt; is_mark(log.get(1), 7));
+        assert!(rt; log.get(1) == Some(Entry::Mark(7)));
         assert!(rt; log.get(2).is_none());
         log.empty();
         assert_eq!(rt; log.count(), 0);
@@ -141,12 +119,10 @@ mod tests {
     fn cuts(rt: HostRuntime) {
         for u in 0usize..25 {
             let mut memory = command_and_mark();
-            let whole = if u < 11 {
-                0
-            } else if u < 19 {
-                1
-            } else {
-                2
+            let whole = match u {
+                0..11 => 0,
+                11..19 => 1,
+                _ => 2,
             };
             assert_eq!(rt; ByteLog::open(&mut memory, u).count(), whole);
             let wanted = match u {
@@ -156,7 +132,7 @@ mod tests {
                 1..11 => Err(LogFault::Unlawful(0)),
                 _ => Err(LogFault::Unlawful(11)),
             };
-            assert!(rt; ByteLog::check(&memory, u) == wanted);
+            assert_eq!(rt; ByteLog::check(&memory, u), wanted);
         }
     }
 }

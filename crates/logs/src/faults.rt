@@ -4,7 +4,7 @@ ghost use Rattle.logs.specs.Faults.{refusal};
 
 use lines::faults::{Layer, Refusal};
 
-#[derive(Clone, Copy, Debug, PartialEq, Eq)]
+#[derive(Clone, Copy, PartialEq, Eq)]
 pub enum LogFault {
     // There is no room for the entry; holds how many entries there are.
     Full(usize),
@@ -17,16 +17,8 @@ impl From<LogFault> for Refusal {
 
     fn from(fault: LogFault) -> Refusal {
         match fault {
-            LogFault::Full(entries) => Refusal {
-                number: 26,
-                layer: Layer::Log,
-                place: entries,
-            },
-            LogFault::Unlawful(offset) => Refusal {
-                number: 6,
-                layer: Layer::Log,
-                place: offset,
-            },
+            LogFault::Full(entries) => Refusal::new(26, Layer::Log, entries),
+            LogFault::Unlawful(offset) => Refusal::new(6, Layer::Log, offset),
         }
     }
 }

@@ -1,25 +1,15 @@
 // Whether commits named a line, for two points at once.
 ghost use Rattle.std.specs.Prelude.{◌≡◌};
-ghost use Rattle.keepers.specs.Bits.{no_bits, bit, with_bit};
+ghost use Rattle.keepers.specs.Bits.{bit, with_bit};
 
 // One bit for commits while the number of points passed is even, one for while it is odd.
-#[derive(Clone, Copy)]
+#[derive(Clone, Copy, Default)]
 pub struct NamedBits {
     pub even: bool,
     pub odd: bool,
 }
 
 impl NamedBits {
-    // Neither is set.
-    pub fn new() -> NamedBits
-        ensures { result ≡ no_bits }
-    {
-        NamedBits {
-            even: false,
-            odd: false,
-        }
-    }
-
     pub fn get(self, odd: bool) -> bool
         ensures { result ≡ bit self odd }
     {
@@ -31,14 +21,11 @@ impl NamedBits {
         ensures { result ≡ with_bit self odd named }
     {
         if odd {
-            NamedBits {
-                even: self.even,
-                odd: named,
-            }
+            NamedBits { odd: named, ..self }
         } else {
             NamedBits {
                 even: named,
-                odd: self.odd,
+                ..self
             }
         }
     }

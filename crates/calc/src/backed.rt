@@ -6,15 +6,13 @@ ghost use Rattle.calc.specs.Laws.{calc-lawful};
 use keepers::clocks::Clock;
 use keepers::given::Given;
 use keepers::pairs::Two;
-use keepers::rules::Rules;
+use keepers::rules::{MOST_LINES, Rules};
 use keepers::stages::Stage;
 use lines::traits::Line;
 use store::stores::Store;
 
 // A keeper by this method.
 pub type Calc<'a, L> = Store<'a, Backed<L>>;
-
-const MOST_LINES: usize = 1024;
 
 // The line with every change made; the point line, where that differs from it; a bit that tells, read against the book's sense, whether the cell is done with the point; and the named bits.
 #[derive(Clone, Copy)]

@@ -68,7 +68,7 @@ mod tests {
 
     // A whole command on line 1, wherever every method allows one: it may not begin in Called.
     fn pass_by<'a, K: Keeper<'a, Line = Account>>(keeper: &mut K, turn: usize) {
-        if keeper.stage().is(Stage::Called) {
+        if matches!(keeper.stage(), Stage::Called) {
             return;
         }
         let _ = keeper.begin(1);
@@ -96,7 +96,7 @@ mod tests {
     }
 
     fn step<'a, K: Keeper<'a, Line = Account>>(keeper: &mut K) -> Answer {
-        number(if keeper.stage().is(Stage::Rest) {
+        number(if matches!(keeper.stage(), Stage::Rest) {
             keeper.call()
         } else {
             keeper.turn()
@@ -173,7 +173,7 @@ mod tests {
             let seen = play(&mut keeper, plan, turn);
             let lines = seen.given.map(|given| given.map(|(line, _named)| line));
             check(lines == [None; 2] || lines == point)?;
-            if keeper.stage().is(Stage::Pointed) && seen.moved == Ok(()) {
+            if matches!(keeper.stage(), Stage::Pointed) && seen.moved == Ok(()) {
                 point = seen.looks;
             }
             *slot = seen;

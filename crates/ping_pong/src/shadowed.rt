@@ -6,15 +6,13 @@ ghost use Rattle.ping_pong.specs.Laws.{ping_pong-lawful};
 use keepers::clocks::Clock;
 use keepers::given::Given;
 use keepers::pairs::Two;
-use keepers::rules::Rules;
+use keepers::rules::{MOST_LINES, Rules};
 use keepers::stages::Stage;
 use lines::traits::Line;
 use store::stores::Store;
 
 // A keeper by this method.
 pub type PingPong<'a, L> = Store<'a, Shadowed<L>>;
-
-const MOST_LINES: usize = 1024;
 
 // The line with every change made; a shadow for each parity of the number of points passed, and their marks; the mark that stood before the holder's first
 // change; and the line as it was when it was last given out.

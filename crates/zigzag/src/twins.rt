@@ -6,7 +6,7 @@ ghost use Rattle.std.proofs.Common.{rules};
 use keepers::clocks::Clock;
 use keepers::given::Given;
 use keepers::pairs::Two;
-use keepers::rules::Rules;
+use keepers::rules::{MOST_LINES, Rules};
 use keepers::stages::Stage;
 use lines::traits::Line;
 use store::stores::Store;
@@ -22,8 +22,6 @@ pub struct Twin<L> {
 
 // A keeper by this method.
 pub type Zigzag<'a, L> = Store<'a, Twin<L>>;
-
-const MOST_LINES: usize = 1024;
 
 impl<L: Line> Twin<L> {
     // The cell with a line written into copy MW.

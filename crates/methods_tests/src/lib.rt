@@ -4,19 +4,17 @@
 
 #[cfg(test)]
 mod tests {
-    use calc::backed::Backed;
+    use calc::backed::Calc;
     use keepers::faults::KeeperFault;
-    use keepers::given::Given;
     use keepers::rules::Rules;
     use keepers::stages::Stage;
     use keepers::traits::Keeper;
     use kinds::accounts::Account;
     use lines::changes::Change;
     use lines::traits::Line;
-    use ping_pong::shadowed::Shadowed;
+    use ping_pong::shadowed::PingPong;
     use std::test::Fail;
-    use store::stores::Store;
-    use zigzag::twins::Twin;
+    use zigzag::twins::Zigzag;
 
     // When a command in seat 0 begins, changes line 0 and ends, in turns of the scene; and how it ends.
     #[derive(Clone, Copy)]
@@ -164,9 +162,11 @@ mod tests {
     ];
 
     // Plays a plan by one method, and sees that what is given out is what was committed at the point.
-    fn trace<R: Rules<Line = Account>>(plan: Plan) -> Result<[Seen; TURNS], Fail> {
-        let mut memory = [Store::<R>::blank(account(0)); 2];
-        let mut keeper = Store::<R>::open(&OPENING, &mut memory);
+    fn trace<'a, K: Keeper<'a, Line = Account> + Drop>(
+        memory: &'a mut [K::Cell],
+        plan: Plan,
+    ) -> Result<[Seen; TURNS], Fail> {
+        let mut keeper = K::open(&OPENING, memory);
         let mut all = [NOTHING; TURNS];
         let mut point = [None; 2];
         for (turn, slot) in all.iter_mut().enumerate() {
@@ -183,9 +183,10 @@ mod tests {
 
     // Once a quiet keeper has refused what CALC allows, only the quiet ones are compared.
     fn agree(plan: Plan) -> Result<(), Fail> {
-        let calc = trace::<Backed<Account>>(plan)?;
-        let zigzag = trace::<Twin<Account>>(plan)?;
-        let ping_pong = trace::<Shadowed<Account>>(plan)?;
+        let blank = account(0);
+        let calc = trace::<Calc<Account>>(&mut [Calc::blank(blank); 2], plan)?;
+        let zigzag = trace::<Zigzag<Account>>(&mut [Zigzag::blank(blank); 2], plan)?;
+        let ping_pong = trace::<PingPong<Account>>(&mut [PingPong::blank(blank); 2], plan)?;
         check(zigzag == ping_pong)?;
         for (calc, zigzag) in calc.iter().zip(zigzag.iter()) {
             if calc.begun != zigzag.begun {

@@ -50,7 +50,7 @@ impl<L: Line> Backed<L> {
     fn is_left(self, clock: Clock, began: Stage) -> bool
         ensures { result ≡ left clock began self }
     {
-        matches!(began, Stage::Called) && !self.is_done(clock)
+        began == Stage::Called && !self.is_done(clock)
     }
 
     // The cell as a command leaves it that began in Called, by commit or abandon: nothing stays saved if that was before the point,

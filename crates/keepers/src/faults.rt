@@ -50,18 +50,18 @@ fn refused(number: u8, layer: Layer, place: usize) -> Refusal
     }
 }
 
-impl KeeperFault {
-    pub fn refusal(self) -> Refusal
-        ensures { result ≡ refusal self }
-    {
-        match self {
-            KeeperFault::NoSuchSeat(seat) => refused(1, Layer::Book, seat as usize),
-            KeeperFault::SeatOpen(seat) => refused(20, Layer::Keeper, seat as usize),
-            KeeperFault::SeatNotOpen(seat) => refused(21, Layer::Keeper, seat as usize),
-            KeeperFault::Held(line) => refused(22, Layer::Keeper, line as usize),
-            KeeperFault::FifthChange(seat) => refused(23, Layer::Keeper, seat as usize),
-            KeeperFault::Quiet(seat) => refused(25, Layer::Keeper, seat as usize),
-            KeeperFault::NotAtRest(stage) => refused(27, Layer::Book, stage.number() as usize),
+impl From<KeeperFault> for Refusal {
+    ghost from_gives = { λ fault r. r ≡ refusal fault };
+
+    fn from(fault: KeeperFault) -> Refusal {
+        match fault {
+            KeeperFault::NoSuchSeat(seat) => refused(1, Layer::Book, usize::from(seat)),
+            KeeperFault::SeatOpen(seat) => refused(20, Layer::Keeper, usize::from(seat)),
+            KeeperFault::SeatNotOpen(seat) => refused(21, Layer::Keeper, usize::from(seat)),
+            KeeperFault::Held(line) => refused(22, Layer::Keeper, usize::from(line)),
+            KeeperFault::FifthChange(seat) => refused(23, Layer::Keeper, usize::from(seat)),
+            KeeperFault::Quiet(seat) => refused(25, Layer::Keeper, usize::from(seat)),
+            KeeperFault::NotAtRest(stage) => refused(27, Layer::Book, usize::from(stage)),
             KeeperFault::WaitsForSeat(seat) => refused(28, Layer::Keeper, seat),
             KeeperFault::WaitsForLines(lines) => refused(28, Layer::Keeper, lines),
             KeeperFault::AtRest => refused(29, Layer::Book, 0),

@@ -8,6 +8,7 @@ mod tests {
     use keepers::traits::Keeper;
     use kinds::accounts::Account;
     use lines::changes::Change;
+    use lines::faults::Refusal;
     use lines::traits::Line;
     use std::test::Fail;
     use zigzag::twins::Zigzag;
@@ -97,7 +98,7 @@ mod tests {
     }
 
     fn number(answer: Result<(), KeeperFault>) -> Answer {
-        answer.map_err(|fault| fault.refusal().number)
+        answer.map_err(|fault| Refusal::from(fault).number)
     }
 
     // Makes the call, and says whether it went as expected.

@@ -11,6 +11,7 @@ mod tests {
     use keepers::traits::Keeper;
     use kinds::accounts::Account;
     use lines::changes::Change;
+    use lines::faults::Refusal;
     use lines::traits::Line;
     use ping_pong::shadowed::PingPong;
     use std::test::Fail;
@@ -45,7 +46,7 @@ mod tests {
     }
 
     fn number(answer: Result<(), KeeperFault>) -> Answer {
-        answer.map_err(|fault| fault.refusal().number)
+        answer.map_err(|fault| Refusal::from(fault).number)
     }
 
     fn given<'a, K: Keeper<'a, Line = Account>>(keeper: &mut K) -> Option<(i64, bool)> {
@@ -66,7 +67,7 @@ mod tests {
 
     // A whole command on line 1, wherever every method allows one: it may not begin in Called.
     fn pass_by<'a, K: Keeper<'a, Line = Account>>(keeper: &mut K, turn: usize) {
-        if matches!(keeper.stage(), Stage::Called) {
+        if keeper.stage() == Stage::Called {
             return;
         }
         let _ = keeper.begin(1);
@@ -94,7 +95,7 @@ mod tests {
     }
 
     fn step<'a, K: Keeper<'a, Line = Account>>(keeper: &mut K) -> Answer {
-        number(if matches!(keeper.stage(), Stage::Rest) {
+        number(if keeper.stage() == Stage::Rest {
             keeper.call()
         } else {
             keeper.turn()
@@ -173,7 +174,7 @@ mod tests {
             let seen = play(&mut keeper, plan, turn);
             let lines = seen.given.map(|given| given.map(|(line, _named)| line));
             check(lines == [None; 2] || lines == point)?;
-            if matches!(keeper.stage(), Stage::Pointed) && seen.moved == Ok(()) {
+            if keeper.stage() == Stage::Pointed && seen.moved == Ok(()) {
                 point = seen.looks;
             }
             *slot = seen;

@@ -12,6 +12,8 @@ mod seating;
 mod turning;
 
 // A cell for each line, sixteen seats, the clock, and how many lines are not due: all of them in Rest, Called and Closing.
+//
+// A call says by `state` what it does, and by `same` that a refusal leaves all as it was, also what `state` does not show. No type can say the second, since it speaks of two moments.
 #[derive(Drop)]
 pub struct Table<'a, R: Rules> {
     cells: &'a mut [Cell<R::Line, R>],

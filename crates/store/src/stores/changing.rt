@@ -23,7 +23,7 @@ impl<'a, R: Rules> Table<'a, R> {
             return Err(KeeperFault::Held(change.line));
         }
         let mut command = open.command;
-        if !command.push(change) {
+        if command.push(change).is_err() {
             return Err(KeeperFault::FifthChange(seat));
         }
         let line = cell.own.live().change(change)?;

@@ -12,7 +12,7 @@ use keepers::rules::Rules;
 use keepers::seats::Seats;
 use lines::numbered::lawful_front;
 
-// Writes a fresh cell for each line.
+// Writes a fresh cell for each line. The lines go by index: of what is written under a `zip` the check knows nothing afterwards.
 fn fill<R: Rules>(cells: &mut [Cell<R::Line, R>], opening: &[R::Line])
     requires { length cells.old ≤ length opening.now }
     ensures { cells.new ≡ map (fresh_cell R.Rules.method) (take (length cells.old) opening.now) }

@@ -1,6 +1,7 @@
-use Rattle.std.proofs.Common.{set, sym, refl, ap, ◌∙◌}
+use Rattle.std.proofs.Common.{◌≡◌, true, false, ltb, length, set, sym, refl, ap, ◌∙◌, rules}
 use Rattle.std.proofs.lemmas.Result.{err_from_is_err_and}
 use Rattle.lines.specs.Numbered.{change}
+use Rattle.records.specs.Commands.{changes_of}
 use Rattle.keepers.specs.Hands.{hands}
 use Rattle.store.specs.States.{state_of}
 use Rattle.store.specs.Steps.{with_cells}
@@ -32,14 +33,15 @@ returns-then-is_held_elsewhere g c =
       same = refl;
     }
 
-pub returns-then-not-push : goal.returns-then-not-push
-returns-then-not-push g c =
+pub returns-then-is_err : goal.returns-then-is_err
+returns-then-is_err g c =
     let t = state_of c.args.self.now in
     let seated = c.in_ok-open.ensures in
+    let room : ltb (length (changes_of c.in_ok-open.open.command)) 4 ≡ false = search rules in
     let there = found_cell _ _ _ c.in_ok-cell.ensures in
     record {
       state = fifth g.R.Rules.method g.R.Line.Line.changed c.args.seat c.args.change t _ seated.0 seated.1 _ there (sym c.if-is_held_elsewhere.ensures)
-          (sym c.if-not-push.ensures.answer);
+          room;
       same = refl;
     }
 
@@ -47,22 +49,24 @@ pub returns-in_err-line : goal.returns-in_err-line
 returns-in_err-line g c =
     let t = state_of c.args.self.now in
     let seated = c.in_ok-open.ensures in
+    let room : ltb (length (changes_of c.in_ok-open.open.command)) 4 ≡ true = search rules in
     let there = found_cell _ _ _ c.in_ok-cell.ensures in
     let fault = err_from_is_err_and c.from_residual-in_err-line.result c.from_residual-in_err-line.ensures.1 in
     let answer = ap (λ x. change g.R.Line.Line.changed x c.args.change) (sym c.live.ensures) ∙ sym c.in_err-line.ensures in
     let way = refused g.R.Rules.method g.R.Line.Line.changed c.args.seat c.args.change t _ seated.0 seated.1 _ there (sym c.if-is_held_elsewhere.ensures)
-    (sym c.if-not-push.ensures.answer) _ answer in
+    room _ answer in
     record { state = rw (fault.1, fault.2) way; same = rw fault.1 refl }
 
 pub returns : goal.returns
 returns g c =
     let t = state_of c.args.self.now in
     let seated = c.in_ok-open.ensures in
+    let room : ltb (length (changes_of c.in_ok-open.open.command)) 4 ≡ true = search rules in
     let there = found_cell _ _ _ c.in_ok-cell.ensures in
     let answer = ap (λ x. change g.R.Line.Line.changed x c.args.change) (sym c.live.ensures) ∙ sym c.in_ok-line.ensures in
     record {
       state = accepted g.R.Rules.method g.R.Line.Line.changed c.args.seat c.args.change t _ seated.0 seated.1 _ there (sym c.if-is_held_elsewhere.ensures)
-          (sym c.if-not-push.ensures.answer) _ answer (state_of c.put_cell.new.self) (hands c.put.new.self) _
+          room _ answer (state_of c.put_cell.new.self) (hands c.put.new.self) _
           (c.put_cell.ensures ∙ ap (λ x. with_cells (set t.cells c.args.change.line x) t) c.changed-cell.ensures) c.put.ensures c.push.ensures.after;
       same = tt;
     }

@@ -9,6 +9,9 @@ use crate::given::Given;
 use crate::stages::Stage;
 use lines::traits::Line;
 
+// The most lines that a method may keep; each says for itself how many it does.
+pub const MOST_LINES: usize = 1024;
+
 // What a cell keeps of its line beside its holder and its before line, and the method's rules on it.
 pub trait Rules: Copy {
     type Line: Line;

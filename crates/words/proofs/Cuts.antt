@@ -1,9 +1,9 @@
 -- A cut at the first mark, which `position` finds.
-use Rattle.std.proofs.Common.{◌≡◌, ℕ, suc, ◌+◌, ◌<◌, eqb, ltb, cond, List, [], ◌∷◌, length, take, drop, Some, None, Option, sym, refl, ap, ◌∙◌, inl, inr, arith}
+use Rattle.std.proofs.Common.{◌≡◌, ℕ, suc, ◌+◌, ◌<◌, eqb, List, [], ◌∷◌, length, take, drop, Some, None, refl, inl, inr, arith}
 use Rattle.std.specs.List.{position, position_or_len, before_first, after_first}
 use Rattle.std.proofs.lemmas.Grind.{common_steps}
 use Rattle.std.proofs.lemmas.Bool.{cases_Bool}
-use Rattle.words.specs.Pieces.{before, beyond}
+use Rattle.words.specs.Pieces.{before, beyond, pieces}
 
 one_more : (n : ℕ) → 1 + n ≡ suc n
 one_more n = omega arith
@@ -25,3 +25,15 @@ module _ (mark : ℕ) (bs : List ℕ) where
 
   pub cut_none : None ≡ position (λ c. eqb c mark) bs → (before mark bs ≡ bs) × (beyond mark bs ≡ [])
   cut_none e = grind (arith, common_steps, before_is mark bs, beyond_is mark bs)
+
+-- the first piece goes as far as the first mark, and the others come from behind it
+pub first_piece : (mark : ℕ) (b : ℕ) (bs : List ℕ) → pieces mark (b ∷ bs) ≡ before mark (b ∷ bs) ∷ pieces mark (beyond mark (b ∷ bs))
+first_piece mark b [] = elim (cases_Bool (eqb b mark)) [ inl t ↦ rw t refl | inr f ↦ rw f refl ]
+first_piece mark b (c ∷ cs) = elim (cases_Bool (eqb b mark)) [ inl t ↦ rw t refl | inr f ↦ rw (f, first_piece mark c cs) refl ]
+
+pub next_piece : (mark : ℕ) (bs : List ℕ) → 0 < length bs → pieces mark bs ≡ before mark bs ∷ pieces mark (beyond mark bs)
+next_piece mark [] h = absurd (omega arith)
+next_piece mark (b ∷ bs) h = first_piece mark b bs
+
+pub fewer_pieces : (mark : ℕ) (bs : List ℕ) → 0 < length bs → length (pieces mark (beyond mark bs)) < length (pieces mark bs)
+fewer_pieces mark bs some = rw (next_piece mark bs some) (omega arith)

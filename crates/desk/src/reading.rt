@@ -35,8 +35,9 @@ impl<T: Drop> From<AllocFailed<T>> for Unread {
 }
 
 impl Unread {
-    // What is told of the line of that number.
-    fn at(self, line: usize) -> anyhow::Error {
+    // What is told of line i, counted from 0.
+    fn at(self, i: usize) -> anyhow::Error {
+        let line = i.saturating_add(1);
         match self {
             Unread::Because(what) => anyhow!("line {line}: {what}"),
             Unread::NoMemory(error) => error.into(),
@@ -47,15 +48,11 @@ impl Unread {
 // All of a script, or the first line of it that cannot be read.
 pub(crate) fn read_script(heap: Global, text: &[u8]) -> anyhow::Result<Vec<Entry<Step>>> {
     let mut entries = Vec::new(heap);
-    let mut at = 1usize;
-    for line in Pieces::new(text, b'\n') {
-        if let Err(unread) = read_line(heap, line, &mut entries) {
-            return Err(unread.at(at));
-        }
-        at = at.saturating_add(1);
+    for (i, line) in Pieces::new(text, b'\n').enumerate() {
+        read_line(heap, line, &mut entries).map_err(|unread| unread.at(i))?;
     }
     if entries.is_empty() {
-        return Err(Unread::Because("no heading").at(at));
+        return Err(Unread::Because("no heading").at(Pieces::new(text, b'\n').count()));
     }
     Ok(entries)
 }

@@ -1,9 +1,9 @@
 -- A cut at the first mark, which `position` finds.
-use Rattle.std.proofs.Common.{◌≡◌, ℕ, suc, ◌+◌, ◌<◌, eqb, List, [], ◌∷◌, length, take, drop, Some, None, refl, inl, inr, arith}
+use Rattle.std.proofs.Common.{◌≡◌, ℕ, suc, ◌+◌, ◌<◌, ◌≤◌, eqb, List, [], ◌∷◌, length, take, drop, Some, None, refl, inl, inr, arith}
 use Rattle.std.specs.List.{position, position_or_len, before_first, after_first}
 use Rattle.std.proofs.lemmas.Grind.{common_steps}
 use Rattle.std.proofs.lemmas.Bool.{cases_Bool}
-use Rattle.words.specs.Pieces.{before, beyond, pieces}
+use Rattle.words.specs.Pieces.{before, beyond, pieces, onto_first}
 
 one_more : (n : ℕ) → 1 + n ≡ suc n
 one_more n = omega arith
@@ -37,3 +37,15 @@ next_piece mark (b ∷ bs) h = first_piece mark b bs
 
 pub fewer_pieces : (mark : ℕ) (bs : List ℕ) → 0 < length bs → length (pieces mark (beyond mark bs)) < length (pieces mark bs)
 fewer_pieces mark bs some = rw (next_piece mark bs some) (omega arith)
+
+-- a piece has a byte or a mark of its own
+first_longer : (b : ℕ) (ps : List (List ℕ)) → length (onto_first b ps) ≤ length ps + 1
+first_longer b [] = omega arith
+first_longer b (p ∷ ps) = omega arith
+
+pub few_pieces : (mark : ℕ) (bs : List ℕ) → length (pieces mark bs) ≤ length bs
+few_pieces mark [] = omega arith
+few_pieces mark (b ∷ bs) = elim (cases_Bool (eqb b mark)) [
+  | inl t ↦ rw t (omega (arith, few_pieces mark bs))
+  | inr f ↦ rw f (omega (arith, few_pieces mark bs, first_longer b (pieces mark bs)))
+]

@@ -1,5 +1,5 @@
 // Bytes cut at a mark.
-ghost use Rattle.std.specs.Prelude.{◌≡◌, ◌==◌, ◌<◌, length, position};
+ghost use Rattle.std.specs.Prelude.{◌≡◌, ◌==◌, ◌<◌, ◌≤◌, length, position};
 ghost use Rattle.std.specs.Iterator.{YieldsFirstRef, item_count};
 ghost use Rattle.words.specs.Pieces.{before, beyond, pieces};
 
@@ -31,7 +31,8 @@ pub struct Pieces<'a> {
 
 impl<'a> Pieces<'a> {
     pub fn new(bytes: &'a [u8], mark: u8) -> Pieces<'a>
-        ensures { pieces result.mark result.rest.now ≡ pieces mark bytes.now }
+        ensures all { pieces result.mark result.rest.now ≡ pieces mark bytes.now }
+        ensures few { length (pieces mark bytes.now) ≤ length bytes.now }
     {
         Pieces { rest: bytes, mark }
     }

@@ -11,7 +11,7 @@ mod script;
 use anyhow::anyhow;
 use lines::numbered::{change_line, lawful_front};
 use played::Played;
-use printing::{Hex, Refused, Reporter};
+use printing::{Hex, Reporter};
 use reading::read_script;
 use script::{Entry, Group, Step, Task};
 use std::io::Read;
@@ -112,7 +112,7 @@ impl<'a> Reporter<'a> {
                 Ok(()) => reporter.answer("ok")?,
                 Err(fault) => {
                     tally.refused = tally.refused.saturating_add(1);
-                    reporter.answer(Refused(fault.refusal()))?;
+                    reporter.refused(fault)?;
                 }
             }
         }

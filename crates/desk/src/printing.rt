@@ -1,6 +1,6 @@
 // How answers are printed.
 use lines::changes::Change;
-use lines::faults::{Layer, Refusal};
+use lines::faults::Refusal;
 use logs::entries::Entry as LogEntry;
 use records::heads::Mode;
 use std::fmt;
@@ -25,6 +25,10 @@ impl<'a> Reporter<'a> {
         Ok(())
     }
 
+    pub(crate) fn refused<F: Into<Refusal>>(self, fault: F) -> anyhow::Result<()> {
+        self.answer(Refused(fault.into()))
+    }
+
     // One of the lines below an answer.
     pub(crate) fn below<T: fmt::Display + Drop>(self, said: T) -> anyhow::Result<()> {
         println!(self.rt; "  {said}")?;
@@ -37,19 +41,7 @@ pub(crate) struct Refused(pub(crate) Refusal);
 
 impl fmt::Display for Refused {
     fn fmt<W: fmt::Write>(&self, f: &mut fmt::Formatter<W>) -> fmt::Result {
-        let Refusal {
-            number,
-            layer,
-            place,
-        } = self.0;
-        let layer = match layer {
-            Layer::Book => "book",
-            Layer::Keeper => "keeper",
-            Layer::Line => "line",
-            Layer::Image => "image",
-            Layer::Log => "log",
-        };
-        write!(f, "refused {number} {layer} {place}")
+        write!(f, "refused {}", self.0)
     }
 }
 

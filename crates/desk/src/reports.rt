@@ -13,7 +13,7 @@ impl<'a> Reporter<'a> {
     pub(crate) fn report_log(self, bytes: &[u8], used: usize) -> anyhow::Result<()> {
         let count = match ByteLog::check(bytes, used) {
             Ok(count) => count,
-            Err(fault) => return self.answer(Refused(fault.refusal())),
+            Err(fault) => return self.refused(fault),
         };
         self.answer(count)?;
         let mut memory: Vec<u8> = bytes.iter().copied().collect(self.rt.alloc())?;
@@ -28,7 +28,7 @@ impl<'a> Reporter<'a> {
     pub(crate) fn report_image<L: Played>(self, bytes: &[u8]) -> anyhow::Result<()> {
         let image = match Image::read::<L>(bytes) {
             Ok(image) => image,
-            Err(fault) => return self.answer(Refused(fault.refusal())),
+            Err(fault) => return self.refused(fault),
         };
         let count = image.count;
         let Head {
@@ -40,7 +40,7 @@ impl<'a> Reporter<'a> {
         } = image.head;
         let mode = InWords(mode);
         self.answer(format_args!("{mode}, {count} lines of {n}, from {from}, point {point}"))?;
-        for found in (0..usize::from(count)).map_while(|k| image.line::<L>(k)) {
+        for found in image.lines::<L>() {
             self.below(format_args!("{} {}", found.number, found.line.numbers()))?;
         }
         Ok(())
@@ -61,7 +61,7 @@ impl<'a> Reporter<'a> {
             }
             Err(fault) => self.answer(format_args!(
                 "{}{}",
-                Refused(fault.refusal()),
+                Refused(fault.into()),
                 which_image(fault)
             )),
         }

@@ -136,7 +136,7 @@ impl<'a> Reporter<'a> {
             match answer_of(keeper, *call) {
                 Ok(answer) => self.below(format_args!("{call}: {answer}"))?,
                 Err(fault) => {
-                    self.below(format_args!("{call}: {}", Refused(fault.refusal())))?;
+                    self.below(format_args!("{call}: {}", Refused(fault.into())))?;
                 }
             }
         }

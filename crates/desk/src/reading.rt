@@ -116,6 +116,7 @@ impl<L: Played> Group<L> {
     }
 }
 
+// Words that were read, with one space between them; they are digits, hexadecimal and known words, and so text.
 fn joined(heap: Global, words: &[&[u8]]) -> Result<String, Unread> {
     let mut text = String::new(heap);
     for word in words {

@@ -11,6 +11,6 @@ returns-clause-steps c =
 pub returns-clause-goes : goal.returns-clause-goes
 returns-clause-goes c =
     let fewer : length (pieces c.args.self.now.mark c.cut_at.result.1.now) < length (pieces c.args.self.now.mark c.args.self.now.rest.now) =
-      rw c.cut_at.ensures.back (fewer_pieces c.args.self.now.mark c.args.self.now.rest.now (search rules))
+    rw c.cut_at.ensures.back (fewer_pieces c.args.self.now.mark c.args.self.now.rest.now (search rules))
     in
     search rules

@@ -23,8 +23,8 @@ pub fn book_cases() -> BookCases
     ensures { Worked result }
 {
     BookCases {
-        image_head: record_of::<HeadRecord, 16>(&head_of_empty()),
-        image_end: record_of::<EndRecord, 6>(&0),
+        image_head: recorded::<HeadRecord, 16>(&head_of_empty()),
+        image_end: recorded::<EndRecord, 6>(&0),
     }
 }
 
@@ -42,7 +42,7 @@ fn head_of_empty() -> Head
 }
 
 // The record of a value that has N bytes. It stands here and not with the records, where it would have to answer for every N.
-fn record_of<R: Record, const N: usize>(value: &R::Value) -> [u8; N]
+fn recorded<R: Record, const N: usize>(value: &R::Value) -> [u8; N]
     requires { length (bytes_of R.layout value.now) ≡ N }
     ensures { result ≡ bytes_of R.layout value.now }
 {

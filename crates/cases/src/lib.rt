@@ -60,8 +60,8 @@ pub fn worked_cases() -> WorkedCases
             balance: -100,
             limit: 100,
         }),
-        command: record_of::<CommandRecord, 11>(&command_of_one(0, 1, 500)),
-        mark: record_of::<MarkRecord, 8>(&1),
+        command: recorded::<CommandRecord, 11>(&command_of_one(0, 1, 500)),
+        mark: recorded::<MarkRecord, 8>(&1),
     }
 }
 
@@ -93,7 +93,7 @@ fn command_of_one(line: u16, kind: u8, amount: u32) -> Command
 }
 
 // The record of a value that has N bytes. It stands here and not with the records, where it would have to answer for every N.
-fn record_of<R: Record, const N: usize>(value: &R::Value) -> [u8; N]
+fn recorded<R: Record, const N: usize>(value: &R::Value) -> [u8; N]
     requires { length (bytes_of R.layout value.now) ≡ N }
     ensures { result ≡ bytes_of R.layout value.now }
 {

@@ -48,14 +48,13 @@ whole_some bs n e = elim (cases_Bool (eqb (length bs) 2)) [
 ]
 
 module _ {L : Type 0} (f : Coding L) where
-  pub part_found : (bs : List ℕ) (count k w n : ℕ) → w ≡ f.width → k < count → (16 + k * (6 + w)) + (6 + w) ≤ length bs
-      → Some n ≡ whole 2 (take 2 (drop 4 (line_slice bs (16 + k * (6 + w)) w)))
-      → Some (record { number = n; offset = (16 + k * (6 + w)) + 6; payload = take (length (line_slice bs (16 + k * (6 + w)) w) - 6) (drop 6 (line_slice bs (16 + k * (6 + w)) w)) }) ≡ part_of f bs count k
-  part_found bs count k w n wide low room e =
+  pub part_found : (bs s : List ℕ) (count k w n : ℕ) → w ≡ f.width → k < count → (16 + k * (6 + w)) + (6 + w) ≤ length bs → s ≡ line_slice bs (16 + k * (6 + w)) w
+      → Some n ≡ whole 2 (take 2 (drop 4 s)) → Some (record { number = n; offset = (16 + k * (6 + w)) + 6; payload = take (length s - 6) (drop 6 s) }) ≡ part_of f bs count k
+  part_found bs s count k w n wide low room is e =
       let at = 16 + k * (6 + w) in
-      let read : n ≡ number (take 2 (drop (at + 4) bs)) = whole_some (take 2 (drop 4 (line_slice bs at w))) n e ∙ ap number (number_slice bs at w) in
+      let read : n ≡ number (take 2 (drop (at + 4) bs)) = whole_some (take 2 (drop 4 (line_slice bs at w))) n (rw is at e) ∙ ap number (number_slice bs at w) in
       let tests = and_from (ltb k count) (leb (at + (6 + w)) (length bs)) (lt-ltb k count low) (le-leb (at + (6 + w)) (length bs) room) in
-      rw (← wide, tests, read, payload_slice bs at w)
+      rw (← wide, tests, read, is, payload_slice bs at w)
 
   -- a part that was found, and what its payload reads as
   pub line_found : (x : Option Handed) (p : Handed) (o : Option L) → Some p ≡ x → o ≡ f.reading p.payload → line_of (Some p.number) o ≡ line_in_part f x

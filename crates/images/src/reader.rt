@@ -4,14 +4,17 @@ ghost use Rattle.std.specs.List.{slice_get};
 ghost use Rattle.std.specs.Option.{option_map};
 ghost use Rattle.images.specs.Images.{Content, LawfulImage, writing};
 ghost use Rattle.images.specs.Parts.{seen, outlined, handed, handing, part_of, line_in_part};
+ghost use Rattle.images.specs.Walks.{lines_at, lines_left};
 ghost use Rattle.images.specs.Reading.{head_allowed, in_turn, end_of, lines_from, counted, reading, OneImage};
 
 use crate::faults::Unlawful;
+use crate::line_walk::Lines;
 use lines::numbers::read_u16;
 use lines::traits::Coded;
 use records::heads::{Head, Mode};
 use records::image_lines::ImageLine;
 use records::images::{read_end, read_head, read_line};
+use std::marker::PhantomData;
 
 // No book has more lines.
 const MOST: u16 = 1024;
@@ -58,15 +61,12 @@ impl<'a> Image<'a> {
         ensures answer { option_map handed result ≡ part_of C.Coded.coding self.entry.bytes.now self.entry.count k }
         ensures lawful { (c : Content C) → LawfulImage C.Coded.coding c → self.entry.bytes.now ≡ writing C.Coded.coding c → self.entry.count ≡ length c.lines → option_map handed result ≡ option_map (handing C.Coded.coding k) (slice_get c.lines k) }
     {
-        if k >= self.count as usize {
+        if k >= usize::from(self.count) {
             return None;
         }
         let len = PAYLOAD_AT + C::width();
         let at = HEAD_LEN + k * len;
-        if self.bytes.len() < at + len {
-            return None;
-        }
-        let line = &self.bytes[at..at + len];
+        let line = self.bytes.get(at..at + len)?;
         Some(Part {
             number: read_u16(&line[4..PAYLOAD_AT])?,
             offset: at + PAYLOAD_AT,
@@ -85,6 +85,18 @@ impl<'a> Image<'a> {
             number: part.number,
             line,
         })
+    }
+
+    // All lines, in order.
+    pub fn lines<C: Coded>(self) -> Lines<'a, C>
+        ensures answer { lines_left C.Coded.coding result ≡ lines_at C.Coded.coding self.entry.bytes.now self.entry.count self.entry.count 0 }
+        ensures lawful { (c : Content C) → LawfulImage C.Coded.coding c → self.entry.bytes.now ≡ writing C.Coded.coding c → self.entry.count ≡ length c.lines → lines_left C.Coded.coding result ≡ c.lines }
+    {
+        Lines {
+            image: self,
+            passed: 0,
+            kind: PhantomData,
+        }
     }
 }
 

@@ -1,5 +1,5 @@
 -- The lines of an image one by one: the first of those that are left, and that those of a lawful image are its lines.
-use Rattle.std.proofs.Common.{◌≡◌, ℕ, zero, suc, ◌+◌, ◌-◌, ◌<◌, ◌&&◌, ltb, leb, List, [], ◌∷◌, length, drop, Some, None, Option, sym, refl, inl, inr, add-one, arith}
+use Rattle.std.proofs.Common.{◌≡◌, ℕ, zero, suc, ◌+◌, ◌-◌, ◌<◌, ◌≤◌, ◌&&◌, ltb, leb, List, [], ◌∷◌, length, drop, Some, None, Option, sym, refl, inl, inr, add-one, arith}
 use Rattle.std.proofs.lemmas.List.{drop_all}
 use Rattle.std.proofs.lemmas.Bool.{and_parts, cases_Bool, ltb-true}
 use Rattle.std.specs.List.{slice_get}
@@ -33,6 +33,15 @@ module _ {L : Type 0} (f : Coding L) (bs : List ℕ) (count : ℕ) where
   pub left_none : (m k : ℕ) → None ≡ line_in k → lines_at f bs count m k ≡ []
   left_none zero k e = refl
   left_none (suc m) k e = rw (← e)
+
+  front_few : (o : Option (ImageLine L)) (vs : List (ImageLine L)) (m : ℕ) → length vs ≤ m → length (in_front o vs) ≤ suc m
+  front_few None vs m h = omega arith
+  front_few (Some v) vs m h = omega arith
+
+  -- no more are listed than are asked for
+  pub lines_few : (m k : ℕ) → length (lines_at f bs count m k) ≤ m
+  lines_few zero k = omega arith
+  lines_few (suc m) k = front_few (line_in k) (lines_at f bs count m (suc k)) m (lines_few m (suc k))
 
   drop_nth : {X : Type 0} (xs : List X) (i : ℕ) (x : X) → slice_get xs i ≡ Some x → drop i xs ≡ x ∷ drop (suc i) xs
   drop_nth [] i x e = let z : ◌≡◌ {A = ℕ} 0 1 = cc in absurd (omega arith)

@@ -22,7 +22,7 @@ use Rattle.images.proofs.Accepted.{length_end}
 use Rattle.images.proofs.Fronts.{rising_few, writing-parts}
 use Rattle.images.proofs.Handing.{line_long}
 use Rattle.joins.proofs.Listing.{overlay_listed, listed_self, listed_more, rising-listed}
-use Rattle.joins.proofs.Merge.{overlay}
+use Rattle.joins.specs.Merging.{overlay}
 
 -- what makes two images join
 pub joins-parts : {L : Type 0} (a b : Content L) → joins a b ≡ true → (a.n ≡ b.n) × (partial b.mode ≡ true) × (b.from ≡ a.point)

@@ -46,14 +46,13 @@ impl<'a> Image<'a> {
         ensures answer { seen result ≡ outlined C.Coded.coding bytes.now (reading C.Coded.coding bytes.now) }
         ensures one { OneImage C.Coded.coding bytes.now }
     {
-        let Some((head, len)) = read_head(bytes) else {
-            return Err(Unlawful { offset: 0 });
-        };
-        if !head_allowed::<C>(head) {
-            return Err(Unlawful { offset: 0 });
+        match read_head(bytes) {
+            Some((head, len)) if head_allowed::<C>(head) => {
+                let count = count_lines::<C>(bytes, head, len)?;
+                Ok(Image { bytes, head, count })
+            }
+            _ => Err(Unlawful { offset: 0 }),
         }
-        let count = count_lines::<C>(bytes, head, len)?;
-        Ok(Image { bytes, head, count })
     }
 
     // The part of line k, counted from 0 as the lines stand in the image.
@@ -127,20 +126,17 @@ fn check_end(rest: &[u8], head: Head, count: u16, at: usize) -> Result<(), Unlaw
     requires { at + length rest.now < 2 ^ 64 }
     ensures { result ≡ end_of head count at rest.now }
 {
-    let Some((told, len)) = read_end(rest) else {
-        return Err(Unlawful { offset: at });
-    };
-    let all_there = match head.mode {
-        Mode::Full => count == head.n,
-        Mode::Partial => true,
-    };
-    if told != count || !all_there {
-        return Err(Unlawful { offset: at });
+    let all_there = head.mode == Mode::Partial || count == head.n;
+    match read_end(rest) {
+        Some((told, len)) if told == count && all_there => {
+            if len == rest.len() {
+                Ok(())
+            } else {
+                Err(Unlawful { offset: at + len })
+            }
+        }
+        _ => Err(Unlawful { offset: at }),
     }
-    if len != rest.len() {
-        return Err(Unlawful { offset: at + len });
-    }
-    Ok(())
 }
 
 // How many lines there are from `start` on, up to a lawful end.

@@ -37,14 +37,14 @@ module _ (bs : List ℕ) (at w : ℕ) where
 
 pub nth_none : {X : Type 0} (xs : List X) (k : ℕ) → slice_get xs k ≡ None → length xs ≤ k
 nth_none [] k e = omega arith
-nth_none (x ∷ xs) zero e = let z : ◌≡◌ {A = ℕ} 0 1 = cc in absurd (omega arith)
+nth_none (x ∷ xs) zero e = absurd (cc)
 nth_none (x ∷ xs) (suc k) e = omega (arith, nth_none xs k e)
 
 -- the number that two bytes hold
 whole_some : (bs : List ℕ) (n : ℕ) → Some n ≡ whole 2 bs → n ≡ number bs
 whole_some bs n e = elim (cases_Bool (eqb (length bs) 2)) [
   | inl t ↦ let some : Some n ≡ Some (number bs) = rw t at e in cc
-  | inr no_two ↦ let none : Some n ≡ None = rw no_two at e in let z : ◌≡◌ {A = ℕ} 0 1 = cc in absurd (omega arith)
+  | inr no_two ↦ let none : Some n ≡ None = rw no_two at e in absurd (cc)
 ]
 
 module _ {L : Type 0} (f : Coding L) where
@@ -95,7 +95,7 @@ module _ {L : Type 0} (f : Coding L) (lawful : Lawful f) where
   -- line records are all of one length, so that the k-th stands behind k of them
   line_at : (vs : List (ImageLine L)) (k : ℕ) (v : ImageLine L) (end : List ℕ) → slice_get vs k ≡ Some v
       → (rest : List ℕ) × (drop (k * (6 + f.width)) (lines_bytes f vs ++ end) ≡ bytes_of (line_record f) v ++ rest) × (k * (6 + f.width) + (6 + f.width) ≤ length (lines_bytes f vs))
-  line_at [] k v end e = let z : ◌≡◌ {A = ℕ} 0 1 = cc in absurd (omega arith)
+  line_at [] k v end e = absurd (cc)
   line_at (x ∷ xs) zero v end e =
       let same : x ≡ v = cc in
       let one = bytes_of (line_record f) x in (
@@ -114,7 +114,7 @@ module _ {L : Type 0} (f : Coding L) (lawful : Lawful f) where
       )
 
   rising_nth : (low n : ℕ) (vs : List (ImageLine L)) (k : ℕ) (v : ImageLine L) → Rising low n vs → slice_get vs k ≡ Some v → (v.number < n) × (k < length vs)
-  rising_nth low n [] k v r e = let z : ◌≡◌ {A = ℕ} 0 1 = cc in absurd (omega arith)
+  rising_nth low n [] k v r e = absurd (cc)
   rising_nth low n (x ∷ xs) zero v r e = let same : x ≡ v = cc in (rw same at r.1, omega arith)
   rising_nth low n (x ∷ xs) (suc k) v r e = let next = rising_nth (suc x.number) n xs k v r.2 e in (next.0, omega (arith, next.1))
 
@@ -144,7 +144,7 @@ module _ {L : Type 0} (f : Coding L) (lawful : Lawful f) where
     part-lawful None e = rw (le-ltb k (length c.lines) (nth_none c.lines k e))
 
   kept_nth : (vs : List (ImageLine L)) (k : ℕ) (v : ImageLine L) → AllByRecursion (λ x. f.keeps x.line ≡ true) vs → slice_get vs k ≡ Some v → f.keeps v.line ≡ true
-  kept_nth [] k v h e = let z : ◌≡◌ {A = ℕ} 0 1 = cc in absurd (omega arith)
+  kept_nth [] k v h e = absurd (cc)
   kept_nth (x ∷ xs) zero v h e = let same : x ≡ v = cc in rw same at h.0
   kept_nth (x ∷ xs) (suc k) v h e = kept_nth xs k v h.1 e
 

@@ -40,7 +40,7 @@ behind_most low n (v ∷ vs) h r = behind_most (suc v.number) n vs r.1 r.2
 
 full_turn : (m : Mode) (low i : ℕ) → m ≡ Full → follows m low i ≡ true → i ≡ low
 full_turn Full low i e t = eqb-true i low t
-full_turn Partial low i e t = let z : ◌≡◌ {A = ℕ} 0 1 = cc in absurd (omega arith)
+full_turn Partial low i e t = absurd (cc)
 
 -- in a full image that is how many there were
 behind_full : {L : Type 0} (h : Head) (low : ℕ) (vs : List (ImageLine L)) → h.mode ≡ Full → Turns h low vs → behind low vs ≡ low + length vs
@@ -171,7 +171,7 @@ module _ {L : Type 0} (f : Coding L) (lawful : Lawful f) (bs : List ℕ) (typed 
         subst (λ p. Front f bs p) (ap (λ y. y.offset) u) (whole_front (complete-due h.mode h.n (length w.seen) (rw count at all)) (rw count at is))
     refused_walk o (closed all is e) err x keeps =
         let wrong : Ok (says h w.seen) ≡ Err (unlawful o) = sym (ap (with_head h) e) ∙ err in
-        let z : ◌≡◌ {A = ℕ} 0 1 = cc in absurd (omega arith)
+        absurd (cc)
 
   at_start : (o : ℕ) → ◌≡◌ {A = Result (Content L) Unlawful} (Err (unlawful 0)) (Err (unlawful o)) → Front f bs o
   at_start o e = let u : unlawful 0 ≡ unlawful o = cc in subst (λ p. Front f bs p) (ap (λ y. y.offset) u) nothing

@@ -21,7 +21,7 @@ module _ {L : Type 0} (f : Coding L) (bs : List ℕ) (count : ℕ) where
       let room = leb (at + (6 + f.width)) (length bs) in
       elim (cases_Bool (ltb k count && room)) [
         | inl t ↦ ltb-true k count (and_parts (ltb k count) room t).0
-        | inr cut ↦ let none : Some v ≡ None = rw cut at e in let z : ◌≡◌ {A = ℕ} 0 1 = cc in absurd (omega arith)
+        | inr cut ↦ let none : Some v ≡ None = rw cut at e in absurd (cc)
       ]
 
   pub left_some : (k : ℕ) (v : ImageLine L) → Some v ≡ line_in k → lines_at f bs count (count - k) k ≡ v ∷ lines_at f bs count (count - (k + 1)) (k + 1)
@@ -44,7 +44,7 @@ module _ {L : Type 0} (f : Coding L) (bs : List ℕ) (count : ℕ) where
   lines_few (suc m) k = front_few (line_in k) (lines_at f bs count m (suc k)) m (lines_few m (suc k))
 
   drop_nth : {X : Type 0} (xs : List X) (i : ℕ) (x : X) → slice_get xs i ≡ Some x → drop i xs ≡ x ∷ drop (suc i) xs
-  drop_nth [] i x e = let z : ◌≡◌ {A = ℕ} 0 1 = cc in absurd (omega arith)
+  drop_nth [] i x e = absurd (cc)
   drop_nth (y ∷ xs) zero x e = let same : y ≡ x = cc in rw same
   drop_nth (y ∷ xs) (suc i) x e = drop_nth xs i x e
 

@@ -22,7 +22,7 @@ use Rattle.images.proofs.Written.{back}
 
 module _ {L : Type 0} (f : Coding L) (bs : List ℕ) (one : OneImage f bs) (image : Image) where
   saying : (r : Result (Content L) Unlawful) → reading f bs ≡ r → seen (Ok image) ≡ outlined f bs r → (c : Content L) × (reading f bs ≡ Ok c) × ReadAs f image c
-  saying (Err u) is e = let z : ◌≡◌ {A = ℕ} 0 1 = cc in absurd (omega arith)
+  saying (Err u) is e = absurd (cc)
   saying (Ok c) is e =
       let same : ◌≡◌ {A = Outline} (record { bytes = image.bytes.now; head = image.head; count = image.count }) (record { bytes = bs; head = head_of f c; count = length c.lines }) = cc in
       let was = one.only c is in
@@ -76,7 +76,7 @@ module _ {L : Type 0} (f : Coding L) (lawful : Lawful f) (x y m : List ℕ) (typ
             let some : Ok (length w) ≡ Ok n = rw fits at ok in
             let same : length w ≡ n = cc in
             (sym same, rw fits ((put_fits w m (leb-true (length w) (length m) fits)).1 ∙ rw same))
-        | inr short ↦ let none : Err (Short (length w)) ≡ Ok n = rw short at ok in let z : ◌≡◌ {A = ℕ} 0 1 = cc in absurd (omega arith)
+        | inr short ↦ let none : Err (Short (length w)) ≡ Ok n = rw short at ok in absurd (cc)
       ]
 
   pub join_law : (r : Result ℕ JoinFault) (after : List ℕ) → r ≡ lengthed (within (length m) (joined f x y)) → after ≡ laid_in m (within (length m) (joined f x y)) → JoinLaw f x y r after
@@ -91,5 +91,5 @@ module _ {L : Type 0} (f : Coding L) (lawful : Lawful f) (x y m : List ℕ) (typ
             let old = (only f lawful x typed_x a rx).0 in
             let new = (only f lawful y typed_y b ry).0 in
             rw front (back f lawful (join a b) (join-lawful f a b old new fit) w (bytes-writing f lawful (join a b)) refl)
-        | inr apart ↦ let none : Err (Apart b.point) ≡ Ok n = rw apart at told in let z : ◌≡◌ {A = ℕ} 0 1 = cc in absurd (omega arith)
+        | inr apart ↦ let none : Err (Apart b.point) ≡ Ok n = rw apart at told in absurd (cc)
       ]

@@ -32,7 +32,7 @@ module _ (m : List ℕ) (at : ℕ) (inside : at ≤ length m) (bs : List ℕ) (t
   laid_within u answer =
       let here : Some u ≡ room bs (drop at m) = answer ∙ rw (take_rest m at) in
       rw same_size (elim (cases_lt (length (drop at m)) (length bs)) [
-        | inl short ↦ let none : Some u ≡ None = here ∙ (put-short bs (drop at m) short).0 in let z : ◌≡◌ {A = ℕ} 0 1 = cc in absurd (omega arith)
+        | inl short ↦ let none : Some u ≡ None = here ∙ (put-short bs (drop at m) short).0 in absurd (cc)
         | inr fits ↦ let some : Some u ≡ Some (length bs) = here ∙ (put_fits bs (drop at m) fits).0 in let is : u ≡ length bs = cc in omega (arith, rest_long)
       ])
 
@@ -83,7 +83,7 @@ pub none_laid : (m : List ℕ) (at : ℕ) (bs cs : List ℕ) (n o : List ℕ) (e
 none_laid m at bs cs n o e first room =
     let sizes = length-append bs cs in
     let p = (first (omega arith)).0 in
-    let z : ◌≡◌ {A = ℕ} 0 1 = cc in absurd (omega arith)
+    absurd (cc)
 
 -- a piece at the very front
 pub laid_first : (m : List ℕ) (bs n : List ℕ) (r : Option ℕ) → r ≡ room bs m → n ≡ put bs m → Laid bs m 0 n r
@@ -130,7 +130,7 @@ module _ {L : Type 0} (f : Coding L) (all : List (ImageLine L)) (m : List ℕ) (
           }
 
       pub one_none : (after : List ℕ) → Laid (bytes_of (line_record f) v) out at after None → ⊥
-      one_none after put = let p = (put fits_next).0 in let z : ◌≡◌ {A = ℕ} 0 1 = cc in omega arith
+      one_none after put = let p = (put fits_next).0 in cc
 
     pub all_done : left ≡ [] → (Some at ≡ Some (start + length (lines_bytes f all))) × (out ≡ overwritten m start (lines_bytes f all))
     all_done is =

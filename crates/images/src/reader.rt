@@ -33,7 +33,7 @@ pub struct Image<'a> {
 }
 
 // A line's payload as a part of the image, and the offset at which it stands there.
-#[derive(Clone, Copy)]
+#[derive(Clone, Copy, PartialEq, Eq)]
 pub struct Part<'a> {
     pub number: u16,
     pub offset: usize,

@@ -4,12 +4,16 @@
 --   keeps        −limit ≤ balance ≤ ceiling. A limit has four bytes; a definition ranges over all numbers, and says so
 --   payload      the balance in eight bytes, two's complement, then the limit in four
 --   decoded      the account that twelve bytes hold
+--   account_change    the change of that code, if there is one
 --   account_changes   1 adds the amount to the balance, 2 takes it off, 3 makes it the limit
 --   account      all that an account is to whoever stores it
-use Rattle.std.specs.Prelude.{ℕ, ◌^◌, Bool, ◌&&◌, List, [], ◌∷◌, ◌++◌, take, drop, ℤ, pos, ◌+ℤ◌, ◌-ℤ◌, neg_ℤ, Some, Option, int_le, nat_lt}
+use Rattle.std.specs.Prelude.{ℕ, ◌^◌, Bool, cond, ◌&&◌, ◌==◌, List, [], ◌∷◌, ◌++◌, take, drop, ℤ, pos, ◌+ℤ◌, ◌-ℤ◌, neg_ℤ, Some, Option, Ok, Err, Result, int_le, nat_lt}
 use Rattle.std.specs.Int.{w64}
 use Rattle.std.proofs.Common.{to_z, of_z}
 use Rattle.kinds.specs.declared.accounts.Account.{Account}
+use Rattle.kinds.specs.declared.accounts.AccountChange.{AccountChange}
+use Rattle.kinds.specs.declared.accounts.AccountChange.TheVariants.{Add, TakeOff, SetLimit}
+use Rattle.lines.specs.declared.changes.UnknownKind.{UnknownKind}
 use Rattle.lines.specs.Bytes.{le, number}
 use Rattle.lines.specs.Changing.{Outcome, chosen}
 use Rattle.lines.specs.Coding.{Coding, read_by}
@@ -25,6 +29,9 @@ payload a = le 8 (of_z w64 a.balance) ++ le 4 a.limit
 
 abbrev pub decoded : List ℕ → Account
 decoded bs = record { balance = to_z w64 (number (take 8 bs)); limit = number (drop 8 bs) }
+
+abbrev pub account_change : ℕ → Result AccountChange UnknownKind
+account_change code = cond (code == 1) (Ok Add) (cond (code == 2) (Ok TakeOff) (cond (code == 3) (Ok SetLimit) (Err (record { code = code }))))
 
 abbrev with_balance : Account → ℤ → Option Account
 with_balance a balance = Some (record { balance = balance; limit = a.limit })

@@ -6,10 +6,14 @@
 --   decoded         the stock line that eight bytes hold
 --   more s h r      s with h pieces more on hand and r more reserved
 --   less s h r      s with h pieces fewer on hand and r fewer reserved; none, where a number would be below zero
+--   stock_change    the change of that code, if there is one
 --   stock_changes   1 adds the amount to on hand, 2 adds it to reserved, 3 takes it off reserved, 4 takes it off both
 --   stock           all that a stock line is to whoever stores it
-use Rattle.std.specs.Prelude.{ℕ, ◌+◌, ◌-◌, Bool, cond, ◌&&◌, List, [], ◌∷◌, ◌++◌, take, drop, Some, None, Option, nat_le}
+use Rattle.std.specs.Prelude.{ℕ, ◌+◌, ◌-◌, Bool, cond, ◌&&◌, ◌==◌, List, [], ◌∷◌, ◌++◌, take, drop, Some, None, Option, Ok, Err, Result, nat_le}
 use Rattle.kinds.specs.declared.stocks.StockLine.{StockLine}
+use Rattle.kinds.specs.declared.stocks.StockChange.{StockChange}
+use Rattle.kinds.specs.declared.stocks.StockChange.TheVariants.{Receive, Reserve, Release, Ship}
+use Rattle.lines.specs.declared.changes.UnknownKind.{UnknownKind}
 use Rattle.lines.specs.Bytes.{le, number}
 use Rattle.lines.specs.Changing.{Outcome, chosen}
 use Rattle.lines.specs.Coding.{Coding, read_by}
@@ -37,6 +41,10 @@ less s on_hand reserved =
     cond (nat_le on_hand s.on_hand && nat_le reserved s.reserved)
     (Some (pieces (s.on_hand - on_hand) (s.reserved - reserved)))
     None
+
+abbrev pub stock_change : ℕ → Result StockChange UnknownKind
+stock_change code =
+    cond (code == 1) (Ok Receive) (cond (code == 2) (Ok Reserve) (cond (code == 3) (Ok Release) (cond (code == 4) (Ok Ship) (Err (record { code = code })))))
 
 abbrev pub stock_changes : StockLine → ℕ → List (ℕ × Option StockLine)
 stock_changes s amount =

@@ -1,14 +1,15 @@
 // The account, type code 1.
-ghost use Rattle.kinds.specs.Accounts.{account, account_changed, decoded, keeps, payload, account_changes};
+ghost use Rattle.std.specs.Prelude.{◌≡◌};
+ghost use Rattle.kinds.specs.Accounts.{account, account_changed, decoded, keeps, payload, account_changes, account_change};
 ghost use Rattle.std.proofs.Common.{arith, of_z};
 ghost use Rattle.std.specs.Int.{w64};
 ghost use Rattle.kinds.specs.AccountBytes.{decoded-payload};
 ghost use Rattle.lines.proofs.Payloads.{read_back, read_only, length_two, bytes_two};
 ghost use Rattle.lines.proofs.Rules.{chosen_kept};
 
-use lines::changes::Change;
+use lines::changes::{Change, UnknownKind};
 use lines::faults::LineFault;
-use lines::numbers::{read_u32, read_u64};
+use lines::numbers::{read_two, write_two};
 use lines::traits::{Coded, Line, judged};
 
 // A builder's account in cents. It keeps its rule where -limit <= balance <= CEILING.
@@ -48,30 +49,44 @@ impl Coded for Account {
     }
 
     fn write_payload(&self, out: &mut [u8]) -> Option<usize> {
-        if out.len() < 12 {
-            return None;
-        }
-        out[0..8].copy_from_slice(&self.balance.to_le_bytes());
-        out[8..12].copy_from_slice(&self.limit.to_le_bytes());
-        Some(12)
+        write_two(self.balance.cast_unsigned(), self.limit, out)
     }
 
     fn read_payload(bytes: &[u8]) -> Option<Account> {
-        if bytes.len() != 12 {
-            return None;
+        let (balance, limit) = read_two::<u64, u32>(bytes)?;
+        Account {
+            balance: balance.cast_signed(),
+            limit,
         }
-        let balance = read_u64(&bytes[0..8])?.cast_signed();
-        let limit = read_u32(&bytes[8..12])?;
-        Account { balance, limit }.kept()
+        .kept()
     }
 }
 
-// The changes of an account.
-const ADD: u8 = 1;
+// The changes of an account, by their codes.
+#[derive(Clone, Copy, PartialEq, Eq)]
+pub enum AccountChange {
+    // 1: the amount is added to the balance.
+    Add,
+    // 2: it is taken off.
+    TakeOff,
+    // 3: it becomes the limit.
+    SetLimit,
+}
 
-const TAKE_OFF: u8 = 2;
+impl TryFrom<u8> for AccountChange {
+    type Error = UnknownKind;
 
-const SET_LIMIT: u8 = 3;
+    ghost try_from_gives = { λ code r. r ≡ account_change code };
+
+    fn try_from(code: u8) -> Result<AccountChange, UnknownKind> {
+        match code {
+            1 => Ok(AccountChange::Add),
+            2 => Ok(AccountChange::TakeOff),
+            3 => Ok(AccountChange::SetLimit),
+            _ => Err(UnknownKind { code }),
+        }
+    }
+}
 
 impl Line for Account {
     ghost changed = { account_changed };
@@ -79,22 +94,24 @@ impl Line for Account {
     ghost kept = { λ x y kind amount. chosen_kept keeps (account_changes x amount) kind y };
 
     fn change(&self, change: Change) -> Result<Account, LineFault> {
+        let Ok(kind) = AccountChange::try_from(change.kind) else {
+            return Err(LineFault::UnknownChange(change.line));
+        };
         let amount = i64::from(change.amount);
         // A sum that stops at an end of its type is as far outside the rule as the true one.
-        let changed = match change.kind {
-            ADD => Account {
+        let changed = match kind {
+            AccountChange::Add => Account {
                 balance: self.balance.saturating_add(amount),
-                limit: self.limit,
+                ..*self
             },
-            TAKE_OFF => Account {
+            AccountChange::TakeOff => Account {
                 balance: self.balance.saturating_sub(amount),
-                limit: self.limit,
+                ..*self
             },
-            SET_LIMIT => Account {
-                balance: self.balance,
+            AccountChange::SetLimit => Account {
                 limit: change.amount,
+                ..*self
             },
-            _ => return Err(LineFault::UnknownChange(change.line)),
         };
         judged(Some(changed), change.line)
     }

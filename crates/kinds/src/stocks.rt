@@ -1,15 +1,15 @@
 // The stock line, type code 2.
 ghost use Rattle.std.specs.Prelude.{◌≡◌, Some};
 ghost use Rattle.lines.specs.Changing.{judged};
-ghost use Rattle.kinds.specs.Stocks.{stock, stock_changed, keeps, more, less, decoded, payload, stock_changes};
+ghost use Rattle.kinds.specs.Stocks.{stock, stock_changed, keeps, more, less, decoded, payload, stock_changes, stock_change};
 ghost use Rattle.std.proofs.Common.{arith};
 ghost use Rattle.kinds.specs.StockBytes.{decoded-payload};
 ghost use Rattle.lines.proofs.Payloads.{read_back, read_only, length_two, bytes_two};
 ghost use Rattle.lines.proofs.Rules.{chosen_kept};
 
-use lines::changes::Change;
+use lines::changes::{Change, UnknownKind};
 use lines::faults::LineFault;
-use lines::numbers::read_u32;
+use lines::numbers::{read_two, write_two};
 use lines::traits::{Coded, Line, judged};
 
 // The pieces of one article. It keeps its rule where reserved <= on_hand <= CEILING.
@@ -49,32 +49,43 @@ impl Coded for StockLine {
     }
 
     fn write_payload(&self, out: &mut [u8]) -> Option<usize> {
-        if out.len() < 8 {
-            return None;
-        }
-        out[0..4].copy_from_slice(&self.on_hand.to_le_bytes());
-        out[4..8].copy_from_slice(&self.reserved.to_le_bytes());
-        Some(8)
+        write_two(self.on_hand, self.reserved, out)
     }
 
     fn read_payload(bytes: &[u8]) -> Option<StockLine> {
-        if bytes.len() != 8 {
-            return None;
-        }
-        let on_hand = read_u32(&bytes[0..4])?;
-        let reserved = read_u32(&bytes[4..8])?;
+        let (on_hand, reserved) = read_two(bytes)?;
         StockLine { on_hand, reserved }.kept()
     }
 }
 
-// The changes of a stock line.
-const RECEIVE: u8 = 1;
+// The changes of a stock line, by their codes.
+#[derive(Clone, Copy, PartialEq, Eq)]
+pub enum StockChange {
+    // 1: so many pieces more are on hand.
+    Receive,
+    // 2: so many more are reserved.
+    Reserve,
+    // 3: so many fewer are reserved.
+    Release,
+    // 4: so many fewer are on hand, and fewer are reserved.
+    Ship,
+}
 
-const RESERVE: u8 = 2;
+impl TryFrom<u8> for StockChange {
+    type Error = UnknownKind;
 
-const RELEASE: u8 = 3;
+    ghost try_from_gives = { λ code r. r ≡ stock_change code };
 
-const SHIP: u8 = 4;
+    fn try_from(code: u8) -> Result<StockChange, UnknownKind> {
+        match code {
+            1 => Ok(StockChange::Receive),
+            2 => Ok(StockChange::Reserve),
+            3 => Ok(StockChange::Release),
+            4 => Ok(StockChange::Ship),
+            _ => Err(UnknownKind { code }),
+        }
+    }
+}
 
 impl StockLine {
     // The line with so many pieces more. A sum stops at the end of its type, which is as far above the ceiling as the true one.
@@ -104,13 +115,15 @@ impl Line for StockLine {
     ghost kept = { λ x y kind amount. chosen_kept keeps (stock_changes x amount) kind y };
 
     fn change(&self, change: Change) -> Result<StockLine, LineFault> {
+        let Ok(kind) = StockChange::try_from(change.kind) else {
+            return Err(LineFault::UnknownChange(change.line));
+        };
         let amount = change.amount;
-        let changed = match change.kind {
-            RECEIVE => Some(self.more(amount, 0)),
-            RESERVE => Some(self.more(0, amount)),
-            RELEASE => self.less(0, amount),
-            SHIP => self.less(amount, amount),
-            _ => return Err(LineFault::UnknownChange(change.line)),
+        let changed = match kind {
+            StockChange::Receive => Some(self.more(amount, 0)),
+            StockChange::Reserve => Some(self.more(0, amount)),
+            StockChange::Release => self.less(0, amount),
+            StockChange::Ship => self.less(amount, amount),
         };
         judged(changed, change.line)
     }

@@ -1,20 +1,33 @@
--- How far the lawful front reaches, line by line.
-use Rattle.std.proofs.Common.{◌≡◌, ℕ, suc, ◌+◌, ◌<◌, ◌≤◌, Bool, true, false, cond, List, length, get_or, drop, arith}
-use Rattle.std.proofs.lemmas.List.{at_drop_more, at_drop_all}
+-- The lawful front reaches to the first line that breaks the rule.
+use Rattle.std.proofs.Common.{◌≡◌, ℕ, suc, ◌+◌, ◌≤◌, Bool, true, false, not, cond, ltb, List, [], ◌∷◌, length, Some, None, Option, refl, inl, inr, arith}
+use Rattle.std.specs.List.{position_or_len}
+use Rattle.std.specs.Option.{unwrap_or}
+use Rattle.std.proofs.lemmas.Bool.{cases_Bool, ltb-false}
+use Rattle.std.proofs.lemmas.List.Recursion.{is_position_or_len}
 use Rattle.lines.specs.Numbered.{front}
 
-module _ {L : Type 0} (keeps : L → Bool) (ls : List L) (i : ℕ) where
-  module _ (x : L) (inside : i < length ls) (read : x ≡ get_or ls i x) (so_far : front keeps ls ≡ i + front keeps (drop i ls)) where
-    here : front keeps (drop i ls) ≡ cond (keeps x) (suc (front keeps (drop (i + 1) ls))) 0
-    here = rw read (at_drop_more (front keeps) ls i x inside)
+one : (b : Bool) (n : ℕ) → cond b (suc n) 0 ≡ cond (not b) 0 (1 + n)
+one true n = omega arith
+one false n = refl
 
-    -- a line that keeps its rule is one more
-    pub front_more : true ≡ keeps x → front keeps ls ≡ (i + 1) + front keeps (drop (i + 1) ls)
-    front_more k = let e : front keeps (drop i ls) ≡ suc (front keeps (drop (i + 1) ls)) = rw (← k) at here in omega arith
+step_le : (b : Bool) (n m : ℕ) → n ≤ m → cond b (suc n) 0 ≤ suc m
+step_le true n m h = omega arith
+step_le false n m h = omega arith
 
-    -- the front ends before a line that breaks its rule
-    pub front_ends : false ≡ keeps x → i ≡ front keeps ls
-    front_ends k = let e : front keeps (drop i ls) ≡ 0 = rw (← k) at here in omega arith
+module _ {L : Type 0} (keeps : L → Bool) where
+  front_is : (ls : List L) → front keeps ls ≡ position_or_len (λ x. not (keeps x)) ls
+  front_is = is_position_or_len (front keeps) (λ x. not (keeps x)) refl (λ x xs. one (keeps x) (front keeps xs))
 
-  pub front_all : length ls ≤ i → i ≤ length ls → front keeps ls ≡ i + front keeps (drop i ls) → length ls ≡ front keeps ls
-  front_all past inside so_far = let e : front keeps (drop i ls) ≡ 0 = at_drop_all (front keeps) ls i past in omega arith
+  front_le : (ls : List L) → front keeps ls ≤ length ls
+  front_le [] = omega arith
+  front_le (x ∷ xs) = step_le (keeps x) (front keeps xs) (length xs) (front_le xs)
+
+  -- where the first such line stands, or how many lines there are if there is none
+  pub front_found : (ls : List L) (at : Option ℕ) → at ≡ cond (ltb (position_or_len (λ x. not (keeps x)) ls) (length ls)) (Some (position_or_len (λ x. not (keeps x)) ls)) None
+      → unwrap_or at (length ls) ≡ front keeps ls
+  front_found ls at found =
+      let le = front_le ls in
+      rw found (rw (← front_is ls) (elim (cases_Bool (ltb (front keeps ls) (length ls))) [
+        | inl t ↦ rw t
+        | inr f ↦ rw f (omega (arith, ltb-false (front keeps ls) (length ls) f))
+      ]))

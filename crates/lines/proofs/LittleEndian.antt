@@ -6,11 +6,7 @@ use Rattle.std.proofs.lemmas.List.{drop_all}
 use Rattle.std.proofs.lemmas.Nat.{div_below}
 use Rattle.std.proofs.lemmas.Bool.{cases_Bool}
 use Rattle.lines.specs.Bytes.{Bytes, le, number, whole}
-
-pub length-le : (k n : ℕ) → length (le k n) ≡ k
-unfolding le
-length-le zero n = refl
-length-le (suc k) n = ap suc (length-le k (n / 256))
+pub use Rattle.lines.specs.Numbers.{length-le}
 
 pub bytes_le : (k n : ℕ) → Bytes (le k n)
 unfolding le

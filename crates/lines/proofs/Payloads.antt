@@ -1,10 +1,10 @@
 -- What every payload of two numbers owes: that it is written whole, and that it has one reading.
-use Rattle.std.proofs.Common.{◌≡◌, ℕ, ◌+◌, ◌^◌, ◌<◌, ◌≤◌, Bool, true, cond, ◌&&◌, eqb, List, [], ◌∷◌, ◌++◌, length, take, drop, Some, None, sym, refl, ap, ◌∙◌, inl, inr, arith}
+use Rattle.std.proofs.Common.{◌≡◌, ℕ, ◌+◌, ◌-◌, ◌^◌, ◌<◌, ◌≤◌, Bool, true, cond, ◌&&◌, eqb, List, [], ◌∷◌, ◌++◌, length, take, drop, Some, None, Option, sym, refl, ap, ◌∙◌, inl, inr, arith}
 use borrow.Rule.Slice.PartMut.{put_mid}
 use Rattle.std.proofs.ByRecursion.{All-append, All-take, All-drop}
 use Rattle.std.proofs.lemmas.List.{length-append, length-take, length-drop, take_at, drop_at, take-append-drop, append_assoc, append-nil, drop_all, drop-drop}
-use Rattle.std.proofs.lemmas.Bool.{and_parts, and_from, and_right, cases_Bool, eqb-true, eq-eqb, le-leb, lt-leb}
-use Rattle.lines.specs.Bytes.{Bytes, le, number, same, put, room}
+use Rattle.std.proofs.lemmas.Bool.{and_parts, and_from, and_right, cases_Bool, eqb-true, eq-eqb, ne_eqb, le-leb, lt-leb}
+use Rattle.lines.specs.Bytes.{Bytes, le, number, same, put, room, whole, both}
 use Rattle.lines.specs.Coding.{read_by}
 use Rattle.lines.proofs.LittleEndian.{length-le, bytes_le, number-le, le-number}
 
@@ -75,6 +75,47 @@ module _ (j k : ℕ) where
       let second = le-number (drop j bs) (All-drop (λ b. b < 256) j bs h) in
       rw (rw front at first, rw back at second) (take-append-drop j bs)
 
+-- Two numbers are read from just as many bytes as they take.
+module _ (j k : ℕ) where
+  abbrev read_two : List ℕ → Option (ℕ × ℕ)
+  read_two bs = both (whole j (take j bs)) (whole k (drop j bs))
+
+  two_there : (bs : List ℕ) → length bs ≡ j + k → read_two bs ≡ Some (number (take j bs), number (drop j bs))
+  two_there bs e =
+      let front : eqb (length (take j bs)) j ≡ true = eq-eqb (length (take j bs)) j (simp length-take (omega arith)) in
+      let back : eqb (length (drop j bs)) k ≡ true = eq-eqb (length (drop j bs)) k (simp length-drop (omega arith)) in
+      rw (front, back)
+
+  two_not_there : (bs : List ℕ) → (length bs ≡ j + k → ⊥) → read_two bs ≡ None
+  two_not_there bs h = elim (cases_Bool (eqb (length (take j bs)) j)) [
+    | inl t ↦
+        let front : length (take j bs) ≡ j = eqb-true (length (take j bs)) j t in
+        let parts : length (take j bs) + length (drop j bs) ≡ length bs = sym (length-append (take j bs) (drop j bs)) ∙ ap length (take-append-drop j bs) in
+        rw (t, ne_eqb (length (drop j bs)) k (λ e. h (omega arith)))
+    | inr f ↦ rw f
+  ]
+
+  -- The reading of a kind whose payload is such two numbers.
+  module _ {L : Type 0} (decode : List ℕ → L) (keeps : L → Bool) (payload : L → List ℕ) (bs : List ℕ) where
+    pub unread : length (payload (decode bs)) ≡ j + k → None ≡ read_two bs → read_by decode keeps payload bs ≡ None
+    unread long none = read_none decode keeps payload bs (λ e.
+        let there = two_there bs (sym e ∙ long) in
+        let z : ◌≡◌ {A = ℕ} 0 1 = cc in
+        absurd (omega arith))
+
+    pub was_read : (m n : ℕ) → Some (m, n) ≡ read_two bs → (length bs ≡ j + k) × (number (take j bs) ≡ m) × (number (drop j bs) ≡ n)
+    was_read m n some = elim (cases_Bool (eqb (length bs) (j + k))) [
+      | inl t ↦
+          let long = eqb-true (length bs) (j + k) t in
+          let e : ◌≡◌ {A = Option (ℕ × ℕ)} (Some (m, n)) (Some (number (take j bs), number (drop j bs))) = some ∙ two_there bs long in
+          let p : ◌≡◌ {A = ℕ × ℕ} (number (take j bs), number (drop j bs)) (m, n) = cc in
+          (long, ap (λ q. q.0) p, ap (λ q. q.1) p)
+      | inr f ↦
+          let none = two_not_there bs (λ e. let g = eq-eqb (length bs) (j + k) e in let z : ◌≡◌ {A = ℕ} 0 1 = cc in absurd (omega arith)) in
+          let z : ◌≡◌ {A = ℕ} 0 1 = cc in
+          absurd (omega arith)
+    ]
+
 -- two parts written one behind the other at the front of memory
 pub two_parts : (j k : ℕ) (bs cs m : List ℕ) → length bs ≡ j → length cs ≡ k → put_mid j k (bs ++ drop j m) cs ≡ (bs ++ cs) ++ drop (j + k) m
 two_parts j k bs cs m e f = rw (take_at bs (drop j m) j e, drop_at bs (drop j m) j e, drop-drop k j m, append_assoc bs cs (drop (j + k) m))
@@ -104,3 +145,14 @@ pub put_whole : (bs m : List ℕ) → length bs ≡ length m → put bs m ≡ bs
 put_whole bs m e =
     let none : drop (length bs) m ≡ [] = drop_all (length bs) m (omega arith) in
     (put_fits bs m (omega arith)).1 ∙ rw none (append-nil bs)
+
+-- bytes put behind others that were put at the front of memory
+pub put_behind : (n : ℕ) (front body m : List ℕ) → length front ≡ n → n + length body ≤ length m
+    → put_mid n (length (put front m) - n) (put front m) (put body (drop n (put front m))) ≡ put (front ++ body) m
+put_behind n front body m e h =
+    let first : put front m ≡ front ++ drop n m = (put_fits front m (omega arith)).1 ∙ rw e in
+    let second : put body (drop n m) ≡ body ++ drop (length body) (drop n m) = (put_fits body (drop n m) (simp length-drop (omega arith))).1 in
+    let long : length (front ++ body) ≡ n + length body = simp length-append (omega arith) in
+    let all : put (front ++ body) m ≡ (front ++ body) ++ drop (n + length body) m = (put_fits (front ++ body) m (omega arith)).1 ∙ rw long in
+    let none : drop (length (front ++ drop n m) - n) (drop n m) ≡ [] = drop_all _ (drop n m) (simp (length-append, length-drop) (omega arith)) in
+    rw (first, take_at front (drop n m) n e, drop_at front (drop n m) n e, second, none, all) (simp (append_assoc, append-nil, drop-drop))

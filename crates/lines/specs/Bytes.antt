@@ -4,6 +4,7 @@
 --   le k n       the k lowest bytes of n, the lowest first (little-endian)
 --   number bs    the number that bs writes, the lowest byte first
 --   whole k bs   that number where there are just k bytes; else none
+--   both x y     the pair of x and y, if there are both
 --   same bs cs   whether two byte strings are equal
 --   put bs m     memory m with bs at its front, the rest as it was; m itself where bs does not fit
 --   overwritten m at bs   memory m with bs from the offset at on, the rest as it was
@@ -36,6 +37,11 @@ room bs m = cond (nat_le (length bs) (length m)) (Some (length bs)) None
 
 abbrev pub overwritten : List ℕ → ℕ → List ℕ → List ℕ
 overwritten m at bs = take at m ++ (bs ++ drop (at + length bs) m)
+
+abbrev pub both : {A B : Type 0} → Option A → Option B → Option (A × B)
+both None y = None
+both (Some a) None = None
+both (Some a) (Some b) = Some (a, b)
 
 abbrev pub whole : ℕ → List ℕ → Option ℕ
 whole k bs = cond (length bs == k) (Some (number bs)) None

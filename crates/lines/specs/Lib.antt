@@ -3,3 +3,4 @@ pub mod Changing
 pub mod Coding
 pub mod Faults
 pub mod Numbered
+pub mod Numbers

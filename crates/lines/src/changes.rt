@@ -7,3 +7,9 @@ pub struct Change {
     pub kind: u8,
     pub amount: u32,
 }
+
+// A number that is the code of no change of a kind of line.
+#[derive(Clone, Copy, PartialEq, Eq)]
+pub struct UnknownKind {
+    pub code: u8,
+}

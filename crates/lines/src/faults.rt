@@ -1,6 +1,8 @@
 // Why a change is turned away, and what a caller is told of any refusal.
-ghost use Rattle.std.specs.Prelude.{◌≡◌};
-ghost use Rattle.lines.specs.Faults.{refusal};
+ghost use Rattle.std.specs.Prelude.{◌≡◌, Some};
+ghost use Rattle.lines.specs.Faults.{refusal, told, layer_name, refusal_text};
+
+use std::fmt;
 
 // Which part of the engine turned a call away.
 #[derive(Clone, Copy)]
@@ -12,12 +14,47 @@ pub enum Layer {
     Log,
 }
 
+impl fmt::Display for Layer {
+    ghost output = { λ layer. Some (layer_name layer) };
+
+    fn fmt<W: fmt::Write>(&self, f: &mut fmt::Formatter<W>) -> fmt::Result {
+        f.write_str(match self {
+            Layer::Book => "book",
+            Layer::Keeper => "keeper",
+            Layer::Line => "line",
+            Layer::Image => "image",
+            Layer::Log => "log",
+        })
+    }
+}
+
 // A refusal as a support desk hears it. What `place` counts (a seat, a line, an offset) goes with the number.
 #[derive(Clone, Copy)]
 pub struct Refusal {
     pub number: u8,
     pub layer: Layer,
     pub place: usize,
+}
+
+impl Refusal {
+    pub fn new(number: u8, layer: Layer, place: usize) -> Refusal
+        ensures { result ≡ told number layer place }
+    {
+        Refusal {
+            number,
+            layer,
+            place,
+        }
+    }
+}
+
+// The number, the layer and the place.
+impl fmt::Display for Refusal {
+    ghost output = { λ r. Some (refusal_text r) };
+
+    fn fmt<W: fmt::Write>(&self, f: &mut fmt::Formatter<W>) -> fmt::Result {
+        write!(f, "{} {} {}", self.number, self.layer, self.place)
+    }
 }
 
 // Why a change is refused; each holds the number of the line that the change names.
@@ -31,26 +68,14 @@ pub enum LineFault {
     AgainstRule(u16),
 }
 
-impl LineFault {
-    pub fn refusal(self) -> Refusal
-        ensures { result ≡ refusal self }
-    {
-        match self {
-            LineFault::NoSuchLine(line) => Refusal {
-                number: 2,
-                layer: Layer::Book,
-                place: line as usize,
-            },
-            LineFault::UnknownChange(line) => Refusal {
-                number: 5,
-                layer: Layer::Line,
-                place: line as usize,
-            },
-            LineFault::AgainstRule(line) => Refusal {
-                number: 24,
-                layer: Layer::Line,
-                place: line as usize,
-            },
+impl From<LineFault> for Refusal {
+    ghost from_gives = { λ fault r. r ≡ refusal fault };
+
+    fn from(fault: LineFault) -> Refusal {
+        match fault {
+            LineFault::NoSuchLine(line) => Refusal::new(2, Layer::Book, usize::from(line)),
+            LineFault::UnknownChange(line) => Refusal::new(5, Layer::Line, usize::from(line)),
+            LineFault::AgainstRule(line) => Refusal::new(24, Layer::Line, usize::from(line)),
         }
     }
 }

@@ -10,12 +10,10 @@ use crate::traits::{Coded, Line};
 pub fn lawful_front<L: Coded>(lines: &[L]) -> usize
     ensures { result ≡ front L.Coded.coding.keeps lines.now }
 {
-    for (i, line) in lines.iter().enumerate() {
-        if !line.keeps_rule() {
-            return i;
-        }
-    }
-    lines.len()
+    lines
+        .iter()
+        .position(|line| !line.keeps_rule())
+        .unwrap_or(lines.len())
 }
 
 // Makes one change on the line that it names. A refusal leaves every line as it was.
@@ -23,11 +21,8 @@ pub fn change_line<L: Line>(lines: &mut [L], change: Change) -> Result<(), LineF
     ensures answer { result ≡ verdict (make L.changed lines.old change) }
     ensures state { lines.new ≡ standing lines.old (make L.changed lines.old change) }
 {
-    let i = change.line as usize;
-    if i >= lines.len() {
-        return Err(LineFault::NoSuchLine(change.line));
-    }
-    let line = lines[i];
+    let i = usize::from(change.line);
+    let line = *lines.get(i).ok_or(LineFault::NoSuchLine(change.line))?;
     lines[i] = line.change(change)?;
     Ok(())
 }

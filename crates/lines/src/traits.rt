@@ -36,7 +36,7 @@ pub trait Coded: Copy {
         Self: Sized,
         ensures { result ≡ (if coding.keeps self then Some self else None) }
     {
-        if self.keeps_rule() { Some(self) } else { None }
+        self.keeps_rule().then_some(self)
     }
 
     ghost lawful: { Lawful coding };
@@ -58,8 +58,5 @@ pub trait Line: Coded {
 pub fn judged<C: Coded>(res: Option<C>, number: u16) -> Result<C, LineFault>
     ensures { result ≡ answered number (judged C.Coded.coding.keeps res) }
 {
-    match res {
-        Some(line) if line.keeps_rule() => Ok(line),
-        _ => Err(LineFault::AgainstRule(number)),
-    }
+    res.and_then(C::kept).ok_or(LineFault::AgainstRule(number))
 }

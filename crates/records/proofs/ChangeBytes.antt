@@ -6,11 +6,12 @@ use Rattle.std.proofs.lemmas.List.{length-append, length-take, length-drop, appe
 use Rattle.std.proofs.lemmas.Slice.{take-put_mid}
 use Rattle.std.proofs.lemmas.Bool.{cases_Bool, and_parts, and_from, eqb-true, eq-eqb, leb-true, le-leb, lt-leb, lt-ltb, ne_eqb, and_right}
 use Rattle.std.proofs.lemmas.Bool.Decides.{nat_tests}
+use Rattle.std.specs.Simd.{first_chunks}
 use Rattle.lines.specs.Bytes.{Bytes, le}
 use Rattle.lines.specs.declared.changes.Change.{Change}
 use Rattle.lines.proofs.LittleEndian.{length-le, bytes_le}
 use Rattle.lines.proofs.Payloads.{bytes_two}
-use Rattle.records.specs.Changes.{change_bytes, change_in, changes_in, seven, changes_bytes, changes_of_bytes, change_fits, changes_fit}
+use Rattle.records.specs.Changes.{change_bytes, change_in, changes_in, changes_bytes, changes_of_bytes, change_fits, changes_fit}
 use Rattle.records.specs.Commands.{pushed}
 use Rattle.records.specs.Numbers.{field}
 use Rattle.records.proofs.Framed.{bytes-append}
@@ -156,24 +157,31 @@ pub command-read : (bs : List ℕ) → length bs ≤ 28 → length bs % 7 ≡ 0 
 unfolding changes_of_bytes
 command-read bs most even = rw (le-leb (length bs) 28 most, eq-eqb (length bs % 7) 0 even)
 
--- the change that seven bytes were read as, at the front of more
-seven_some : (bs : List ℕ) (x : Change) → Some x ≡ seven (take 7 bs) → x ≡ change_in bs
-seven_some bs x h =
+-- the change of the first seven bytes is the change that all begin with
+change_in_front : (bs : List ℕ) → change_in (take 7 bs) ≡ change_in bs
+change_in_front bs =
     let line : take 2 (take 7 bs) ≡ take 2 bs = take-take 2 7 bs (omega arith) in
     let kind : take 1 (drop 2 (take 7 bs)) ≡ take 1 (drop 2 bs) = ap (take 1) (drop-take 2 5 bs) ∙ take-take 1 5 (drop 2 bs) (omega arith) in
     let amount : take 4 (drop 3 (take 7 bs)) ≡ take 4 (drop 3 bs) = ap (take 4) (drop-take 3 4 bs) ∙ take-take 4 4 (drop 3 bs) (omega arith) in
-    let front : change_in (take 7 bs) ≡ change_in bs = rw (line, kind, amount) in
-    elim (cases_Bool (eqb (length (take 7 bs)) 7)) [
-      | inl t ↦ let e : Some x ≡ Some (change_in (take 7 bs)) = rw t at h in let same : x ≡ change_in (take 7 bs) = cc in same ∙ front
-      | inr f ↦ let e : Some x ≡ None = rw f at h in let z : ◌≡◌ {A = ℕ} 0 1 = cc in absurd (omega arith)
-    ]
+    rw (line, kind, amount)
+
+-- the seven bytes at a place
+slot : (n i : ℕ) (bs d : List ℕ) → i < n → get_or (first_chunks 7 n bs) i d ≡ take 7 (drop (7 * i) bs)
+slot zero i bs d h = absurd (omega arith)
+slot (suc n) zero bs d h = refl
+slot (suc n) (suc i) bs d h =
+    let next : 7 + 7 * i ≡ 7 * suc i = omega arith in
+    slot n i (drop 7 bs) d (omega arith) ∙ ap (take 7) (drop-drop (7 * i) 7 bs ∙ ap (λ m. drop m bs) next)
+
+pub length-slots : (n : ℕ) (bs : List ℕ) → length (first_chunks 7 n bs) ≡ n
+length-slots zero bs = refl
+length-slots (suc n) bs = ap suc (length-slots n (drop 7 bs))
 
 -- a change that was read is pushed onto those before it
-pub command_step : (bs : List ℕ) (i : ℕ) (cs ds : List Change) (x : Change) → i < 4 → cs ≡ changes_in i bs → ds ≡ pushed cs x
-    → Some x ≡ seven (take (7 * i + 7 - 7 * i) (drop (7 * i) bs)) → ds ≡ changes_in (i + 1) bs
-command_step bs i cs ds x few so_far push read =
-    let wide : 7 * i + 7 - 7 * i ≡ 7 = omega arith in
-    let here : x ≡ change_in (drop (7 * i) bs) = seven_some (drop (7 * i) bs) x (rw wide at read) in
+pub command_step : (n : ℕ) (bs d : List ℕ) (i : ℕ) (cs ds : List Change) → i < n → i < 4 → cs ≡ changes_in i bs
+    → ds ≡ pushed cs (change_in (get_or (first_chunks 7 n bs) i d)) → ds ≡ changes_in (i + 1) bs
+command_step n bs d i cs ds inside few so_far push =
+    let here : change_in (get_or (first_chunks 7 n bs) i d) ≡ change_in (drop (7 * i) bs) = ap change_in (slot n i bs d inside) ∙ change_in_front (drop (7 * i) bs) in
     let test : ltb (length cs) 4 ≡ true = lt-ltb (length cs) 4 (omega (arith, length-changes_in i bs, ap length so_far)) in
-    let pushed_on : ds ≡ cs ++ x ∷ [] = rw test at push in
+    let pushed_on : ds ≡ cs ++ change_in (get_or (first_chunks 7 n bs) i d) ∷ [] = rw test at push in
     pushed_on ∙ rw (so_far, here) (sym (changes_more i bs))

@@ -6,7 +6,7 @@ use Rattle.std.proofs.lemmas.List.{length-append, length-take, length-take-le, l
 use Rattle.std.proofs.lemmas.Bool.{and_parts, cases_Bool, eqb-true, leb-true, eq-eqb, le-leb}
 use Rattle.lines.specs.Bytes.{Bytes, le, number, put, room}
 use Rattle.lines.proofs.LittleEndian.{length-le, bytes_le, number-le, le-number}
-use Rattle.lines.proofs.Payloads.{put_fits, put-short, two_parts}
+use Rattle.lines.proofs.Payloads.{put_fits, put-short, put_behind}
 use Rattle.records.specs.Framing.{framed, record_length, Layout, sized, read_sized, read, LawfulLayout, OneReading}
 
 pub length-framed : (kind : ℕ) (body : List ℕ) → length (framed kind body) ≡ 4 + length body
@@ -28,21 +28,20 @@ take_split a b xs = rw (← drop-take a b xs, ← take-take a (a + b) xs (omega 
 
 -- what a writer of length, kind and body leaves in memory
 module _ (kind : ℕ) (body out : List ℕ) where
-  pub framed_fit : 4 + length body ≤ length out
-      → (room (framed kind body) out ≡ Some (4 + length body))
-      × (put (framed kind body) out ≡ put_mid 4 (length body) (put_mid 2 2 (le 2 (4 + length body) ++ drop 2 out) (le 2 kind)) body)
+  pub framed_behind : 4 + length body ≤ length out
+      → let front = le 2 (4 + length body) ++ le 2 kind in
+      (room (framed kind body) out ≡ Some (4 + length body))
+      × (put_mid 4 (length (put front out) - 4) (put front out) (put body (drop 4 (put front out))) ≡ put (framed kind body) out)
   unfolding framed
-  framed_fit h =
-      let n = 4 + length body in
+  framed_behind h =
+      let front = le 2 (4 + length body) ++ le 2 kind in
+      let four : length front ≡ 4 = simp (length-append, length-le) in
       let long = length-framed kind body in
       let fits = put_fits (framed kind body) out (omega arith) in
-      let front = two_parts 2 2 (le 2 n) (le 2 kind) out (length-le 2 n) (length-le 2 kind) in
-      let four : length (le 2 n ++ le 2 kind) ≡ 4 = simp (length-append, length-le) in
-      let all = two_parts 4 (length body) (le 2 n ++ le 2 kind) body out four refl in
-      (fits.0 ∙ ap Some long, fits.1 ∙ rw (long, front, all, append_assoc (le 2 n) (le 2 kind) body))
+      (fits.0 ∙ ap Some long, put_behind 4 front body out four h ∙ ap (λ bs. put bs out) (append_assoc (le 2 (4 + length body)) (le 2 kind) body))
 
-  pub framed-short : length out < 4 + length body → (room (framed kind body) out ≡ None) × (put (framed kind body) out ≡ out)
-  framed-short h = put-short (framed kind body) out (omega (arith, length-framed kind body))
+  pub framed_short : length out < 4 + length body → (room (framed kind body) out ≡ None) × (put (framed kind body) out ≡ out)
+  framed_short h = put-short (framed kind body) out (omega (arith, length-framed kind body))
 
 -- the length that a record begins with, its kind, and its body
 module _ (kind : ℕ) (body rest : List ℕ) (small : kind ≤ 65535) (short : length body ≤ 28) where

@@ -8,9 +8,12 @@ use Rattle.lines.proofs.LittleEndian.{length-le, bytes_le}
 use Rattle.lines.proofs.Payloads.{bytes_two}
 use Rattle.records.specs.declared.heads.Head.{Head}
 use Rattle.records.specs.declared.heads.Mode.{Mode}
+use Rattle.records.specs.declared.heads.UnknownMode.{UnknownMode}
+use Rattle.std.specs.Option.{ok_or}
+use Rattle.std.specs.Result.{result_ok}
 use Rattle.records.specs.declared.heads.Mode.TheVariants.{Full, Partial}
 use Rattle.records.specs.Framing.{LawfulLayout}
-use Rattle.records.specs.Heads.{mode_code, mode_of, head_body, head_with, head_in, head_fits, head_record}
+use Rattle.records.specs.Heads.{mode_code, mode_of, mode_or_not, head_body, head_with, head_in, head_fits, head_record}
 use Rattle.records.specs.Numbers.{field}
 use Rattle.records.proofs.Framed.{bytes-append}
 use Rattle.records.proofs.FieldBytes.{field_here, field_only, field_behind, field_again, field_last, field_lt, field_1}
@@ -83,6 +86,14 @@ head_only bs h typed some = elim (cases_Bool (eqb (length bs) 12)) [
 pub head-short : (bs : List ℕ) → (length bs ≡ 12 → ⊥) → None ≡ head_in bs
 unfolding head_in
 head-short bs h = rw (ne_eqb (length bs) 12 h)
+
+-- the mode that a code converts to
+ok_of : (o : Option Mode) (e : UnknownMode) → result_ok (ok_or o e) ≡ o
+ok_of None e = refl
+ok_of (Some m) e = refl
+
+pub mode_converted : (b : ℕ) → result_ok (mode_or_not b) ≡ mode_of b
+mode_converted b = ok_of (mode_of b) (record { code = b })
 
 pub head_read : (bs : List ℕ) → length bs ≡ 12 → (o : Option Mode) → o ≡ mode_of (get_or bs 1 0) → head_with bs o ≡ head_in bs
 unfolding head_in

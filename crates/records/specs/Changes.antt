@@ -4,7 +4,6 @@
 --   same_change c d    whether the numbers of two changes are the same
 --   change_bytes c     line number (2 bytes), change kind (1), amount (4)
 --   change_in bs       the change that bs begins with
---   seven bs           that change where there are just seven bytes; else none
 --   changes_in n bs    the n changes that bs begins with
 --   changes_bytes cs   the changes, one behind the other
 --   changes_of_bytes bs   the changes that bs is the bytes of: none, where seven does not divide its length, or where they are more than four
@@ -33,9 +32,6 @@ change_bytes c = le 2 c.line ++ (le 1 c.kind ++ le 4 c.amount)
 
 abbrev pub change_in : List ℕ → Change
 change_in bs = record { line = field 0 2 bs; kind = field 2 1 bs; amount = field 3 4 bs }
-
-abbrev pub seven : List ℕ → Option Change
-seven bs = cond (length bs == 7) (Some (change_in bs)) None
 
 abbrev pub changes_in : ℕ → List ℕ → List Change
 changes_in zero bs = []

@@ -1,4 +1,5 @@
 pub mod Framing
+pub mod Kinds
 pub mod Numbers
 pub mod Heads
 pub mod ImageLines

@@ -20,6 +20,11 @@ pub struct Command {
     ghost padded: { drop len changes ≡ replicate (4 - len) no_change },
 }
 
+// A command has its four changes already.
+#[derive(Clone, Copy, PartialEq, Eq)]
+pub struct CommandFull;
+
+// By hand, since a derived `==` would not promise that it decides whether two commands are one value.
 impl PartialEq for Command {
     ghost eq = { eq_of_both (on (λ c. c.len) nat_eq) (on (λ c. c.changes) (pointwise same_change)) };
 

@@ -1,53 +1,61 @@
 // The records of a log: commands and marks.
-ghost use Rattle.std.specs.Prelude.{◌≡◌, true};
-ghost use Rattle.lines.specs.Bytes.{put, room};
+ghost use Rattle.std.specs.Prelude.{true};
 ghost use Rattle.records.specs.Commands.{command_record};
-ghost use Rattle.records.specs.Framing.{bytes_of, read, OneReading};
 ghost use Rattle.records.specs.Numbers.{mark_record};
 
 use crate::commands::Command;
-use crate::frames::{record_len, write_framed};
-use lines::numbers::read_u32;
+use crate::frames::{Kind, Record};
+use lines::numbers::{Number, write_front};
 
-const COMMAND: u16 = 4;
+pub struct CommandRecord;
 
-const MARK: u16 = 5;
+impl Record for CommandRecord {
+    type Value = Command;
 
-// Writes a command at the front of `out` and answers the record's length; none, with nothing written, where it does not fit.
-pub fn write_command(out: &mut [u8], command: &Command) -> Option<usize>
-    ensures answer { result ≡ room (bytes_of command_record command.now) out.old }
-    ensures after { out.new ≡ put (bytes_of command_record command.now) out.old }
-    ensures fits { command_record.fits command.now ≡ true }
-{
-    let slots = command.slots();
-    write_framed(out, COMMAND, &slots[0..7 * command.len()])
+    ghost layout = { command_record };
+
+    ghost allowed = { λ _. true };
+
+    fn kind() -> Kind {
+        Kind::Command
+    }
+
+    fn body_len(command: &Command) -> usize {
+        command.bytes_len()
+    }
+
+    fn write_body(command: &Command, out: &mut [u8]) -> Option<usize> {
+        write_front(&command.slots()[0..7 * command.len()], out)
+    }
+
+    fn read_body(bytes: &[u8]) -> Option<Command> {
+        Command::of_body(bytes)
+    }
 }
 
-// The command that `bytes` begin with, and the record's length.
-pub fn read_command(bytes: &[u8]) -> Option<(Command, usize)>
-    ensures answer { result ≡ read command_record bytes.now }
-    ensures one { OneReading command_record bytes.now result }
-{
-    let len = record_len(bytes, COMMAND)?;
-    let command = Command::of_body(&bytes[4..len])?;
-    Some((command, len))
-}
+// A mark; its value is the point.
+pub struct MarkRecord;
 
-// The same for a mark.
-pub fn write_mark(out: &mut [u8], point: u32) -> Option<usize>
-    ensures answer { result ≡ room (bytes_of mark_record point) out.old }
-    ensures after { out.new ≡ put (bytes_of mark_record point) out.old }
-    ensures fits { mark_record.fits point ≡ true }
-{
-    write_framed(out, MARK, &point.to_le_bytes())
-}
+impl Record for MarkRecord {
+    type Value = u32;
 
-// The point of the mark that `bytes` begin with, and the record's length.
-pub fn read_mark(bytes: &[u8]) -> Option<(u32, usize)>
-    ensures answer { result ≡ read mark_record bytes.now }
-    ensures one { OneReading mark_record bytes.now result }
-{
-    let len = record_len(bytes, MARK)?;
-    let point = read_u32(&bytes[4..len])?;
-    Some((point, len))
+    ghost layout = { mark_record };
+
+    ghost allowed = { λ _. true };
+
+    fn kind() -> Kind {
+        Kind::Mark
+    }
+
+    fn body_len(point: &u32) -> usize {
+        point.to_le_bytes().len()
+    }
+
+    fn write_body(point: &u32, out: &mut [u8]) -> Option<usize> {
+        point.write(out)
+    }
+
+    fn read_body(bytes: &[u8]) -> Option<u32> {
+        u32::read(bytes)
+    }
 }

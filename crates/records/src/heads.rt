@@ -1,8 +1,8 @@
 // What an image begins with, as a value and as the body of its record.
-ghost use Rattle.std.specs.Prelude.{◌≡◌};
-ghost use Rattle.records.specs.Heads.{mode_code, mode_of, head_body, head_in};
+ghost use Rattle.std.specs.Prelude.{◌≡◌, true};
+ghost use Rattle.records.specs.Heads.{mode_code, mode_or_not, head_body, head_in, head_fits};
 
-use lines::numbers::{read_u16, read_u32};
+use lines::numbers::Number;
 
 // Whether an image has every line, or only those that changed since the one before.
 #[derive(Clone, Copy, PartialEq, Eq)]
@@ -11,24 +11,33 @@ pub enum Mode {
     Partial,
 }
 
-impl Mode {
-    pub fn code(self) -> u8
-        ensures { result ≡ mode_code self }
-    {
-        match self {
+// A number that is the code of no mode.
+#[derive(Clone, Copy, PartialEq, Eq)]
+pub struct UnknownMode {
+    pub code: u8,
+}
+
+impl From<Mode> for u8 {
+    ghost from_gives = { λ mode n. n ≡ mode_code mode };
+
+    fn from(mode: Mode) -> u8 {
+        match mode {
             Mode::Full => 0,
             Mode::Partial => 1,
         }
     }
+}
 
-    // The mode of that code, if there is one.
-    pub fn of(code: u8) -> Option<Mode>
-        ensures { result ≡ mode_of code }
-    {
+impl TryFrom<u8> for Mode {
+    type Error = UnknownMode;
+
+    ghost try_from_gives = { λ code r. r ≡ mode_or_not code };
+
+    fn try_from(code: u8) -> Result<Mode, UnknownMode> {
         match code {
-            0 => Some(Mode::Full),
-            1 => Some(Mode::Partial),
-            _ => None,
+            0 => Ok(Mode::Full),
+            1 => Ok(Mode::Partial),
+            _ => Err(UnknownMode { code }),
         }
     }
 }
@@ -45,11 +54,12 @@ pub struct Head {
 
 impl Head {
     pub fn body(self) -> [u8; 12]
-        ensures { result ≡ head_body self }
+        ensures bytes { result ≡ head_body self }
+        ensures fits { head_fits self ≡ true }
     {
         let mut body = [0; 12];
         body[0] = self.code;
-        body[1] = self.mode.code();
+        body[1] = u8::from(self.mode);
         body[2..4].copy_from_slice(&self.n.to_le_bytes());
         body[4..8].copy_from_slice(&self.from.to_le_bytes());
         body[8..12].copy_from_slice(&self.point.to_le_bytes());
@@ -65,10 +75,10 @@ impl Head {
         }
         Some(Head {
             code: bytes[0],
-            mode: Mode::of(bytes[1])?,
-            n: read_u16(&bytes[2..4])?,
-            from: read_u32(&bytes[4..8])?,
-            point: read_u32(&bytes[8..12])?,
+            mode: Mode::try_from(bytes[1]).ok()?,
+            n: u16::read(&bytes[2..4])?,
+            from: u32::read(&bytes[4..8])?,
+            point: u32::read(&bytes[8..12])?,
         })
     }
 }

@@ -1,11 +1,10 @@
 // A command as the body of its record: seven bytes for each change.
-ghost use Rattle.std.specs.Prelude.{◌≡◌, true};
-ghost use Rattle.records.specs.Changes.{change_bytes, change_fits, changes_bytes, changes_fit, seven};
-ghost use Rattle.records.specs.Commands.{command_in};
+ghost use Rattle.std.specs.Prelude.{◌≡◌, ◌≤◌, true, length};
+ghost use Rattle.records.specs.Changes.{change_bytes, change_fits, change_in, changes_bytes, changes_fit};
+ghost use Rattle.records.specs.Commands.{changes_of, command_in};
 
 use super::Command;
 use lines::changes::Change;
-use lines::numbers::{read_u16, read_u32};
 
 // Four changes of seven bytes.
 const LONGEST: usize = 28;
@@ -21,29 +20,39 @@ fn change_bytes(change: Change) -> [u8; 7]
     bytes
 }
 
-// The change that seven bytes hold; none, if there are more or fewer.
-fn change_in(bytes: &[u8]) -> Option<Change>
-    ensures { result ≡ seven bytes.now }
+fn change_in(bytes: &[u8; 7]) -> Change
+    ensures { result ≡ change_in bytes.now }
 {
-    if bytes.len() != 7 {
-        return None;
+    let [l, m, kind, a, b, c, d] = *bytes;
+    Change {
+        line: u16::from_le_bytes([l, m]),
+        kind,
+        amount: u32::from_le_bytes([a, b, c, d]),
     }
-    Some(Change {
-        line: read_u16(&bytes[0..2])?,
-        kind: bytes[2],
-        amount: read_u32(&bytes[3..7])?,
-    })
 }
 
 impl Command {
+    // How many bytes the changes take.
+    pub(crate) fn bytes_len(&self) -> usize
+        ensures len { result ≡ length (changes_bytes (changes_of self.now)) }
+        ensures short { result ≤ 28 }
+        ensures fits { changes_fit (changes_of self.now) ≡ true }
+    {
+        let mut len = 0;
+        for change in self.as_slice() {
+            len += change_bytes(*change).len();
+        }
+        len
+    }
+
     // The bytes of all four slots.
     pub(crate) fn slots(&self) -> [u8; 28]
         ensures bytes { result ≡ changes_bytes self.now.changes }
         ensures fits { changes_fit self.now.changes ≡ true }
     {
         let mut body = [0; 28];
-        for i in 0..4 {
-            body[7 * i..7 * i + 7].copy_from_slice(&change_bytes(self.changes[i]));
+        for (i, change) in self.changes.iter().enumerate() {
+            body[7 * i..7 * i + 7].copy_from_slice(&change_bytes(*change));
         }
         body
     }
@@ -52,13 +61,13 @@ impl Command {
     pub fn of_body(bytes: &[u8]) -> Option<Command>
         ensures { result ≡ command_in bytes.now }
     {
-        if bytes.len() > LONGEST || bytes.len() % 7 != 0 {
+        let (slots, rest) = bytes.as_chunks::<7>();
+        if bytes.len() > LONGEST || !rest.is_empty() {
             return None;
         }
         let mut command = Command::new();
-        for i in 0..bytes.len() / 7 {
-            let change = change_in(&bytes[7 * i..7 * i + 7])?;
-            let _ = command.push(change);
+        for slot in slots {
+            let _ = command.push(change_in(slot));
         }
         Some(command)
     }

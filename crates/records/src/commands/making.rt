@@ -1,10 +1,10 @@
 // Making a command, change by change, and looking into it.
-ghost use Rattle.std.specs.Prelude.{◌≡◌, false, [], length, nat_lt};
+ghost use Rattle.std.specs.Prelude.{◌≡◌, false, [], length, nat_lt, is_ok};
 ghost use Rattle.std.specs.List.{slice_get};
 ghost use Rattle.records.specs.declared.commands.Command.{Command as AnyCommand};
 ghost use Rattle.records.specs.Commands.{changes_of, pushed};
 
-use super::Command;
+use super::{Command, CommandFull};
 use lines::changes::Change;
 
 // How many changes a command may have.
@@ -27,18 +27,18 @@ impl Command {
         }
     }
 
-    // Adds a change at the end and answers true; false, with nothing added, where there are four.
-    pub fn push(&mut self, change: Change) -> bool
-        ensures answer { result ≡ nat_lt (length (changes_of self.old)) 4 }
+    // Adds a change at the end; or there are four, and nothing is added.
+    pub fn push(&mut self, change: Change) -> Result<(), CommandFull>
+        ensures answer { is_ok result ≡ nat_lt (length (changes_of self.old)) 4 }
         ensures after { changes_of self.new ≡ pushed (changes_of self.old) change }
-        ensures refused { result ≡ false → self.new ≡ self.old }
+        ensures refused { is_ok result ≡ false → self.new ≡ self.old }
     {
         if self.len >= MOST {
-            return false;
+            return Err(CommandFull);
         }
         self.changes[self.len] = change;
         self.len += 1;
-        true
+        Ok(())
     }
 
     pub fn len(&self) -> usize
@@ -51,11 +51,7 @@ impl Command {
     pub fn get(&self, i: usize) -> Option<Change>
         ensures { result ≡ slice_get (changes_of self.now) i }
     {
-        if i < self.len {
-            Some(self.changes[i])
-        } else {
-            None
-        }
+        self.as_slice().get(i).copied()
     }
 
     // The changes in order. Commands with the same changes are equal values.

@@ -4,5 +4,5 @@ use Rattle.records.specs.Commands.{changes_of}
 use Rattle.records.proofs.commands.Command.of_body.Given as goal
 
 -- the changes so far
-abbrev pub invariant-loop-i : goal.invariant-loop-i
-invariant-loop-i l = changes_of l.command ≡ changes_in l.i l.bytes
+abbrev pub invariant-loop-slot : goal.invariant-loop-slot
+invariant-loop-slot l = changes_of l.command ≡ changes_in l.slot-index l.bytes

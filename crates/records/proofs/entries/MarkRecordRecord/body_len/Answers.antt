@@ -1,0 +1,6 @@
+use Rattle.std.proofs.Common.{sym}
+use Rattle.lines.proofs.LittleEndian.{length-le}
+use Rattle.records.proofs.entries.MarkRecordRecord.body_len.Goals as goal
+
+pub returns-clause-len : goal.returns-clause-len
+returns-clause-len c = sym (length-le 4 c.args.point.now)

@@ -9,11 +9,12 @@ ghost use Rattle.images.specs.Reading.{head_allowed, in_turn, end_of, lines_from
 
 use crate::faults::Unlawful;
 use crate::line_walk::Lines;
-use lines::numbers::read_u16;
+use lines::numbers::Number;
 use lines::traits::Coded;
+use records::frames::read_record;
 use records::heads::{Head, Mode};
 use records::image_lines::ImageLine;
-use records::images::{read_end, read_head, read_line};
+use records::images::{EndRecord, HeadRecord, LineRecord};
 use std::marker::PhantomData;
 
 // No book has more lines.
@@ -46,7 +47,7 @@ impl<'a> Image<'a> {
         ensures answer { seen result ≡ outlined C.Coded.coding bytes.now (reading C.Coded.coding bytes.now) }
         ensures one { OneImage C.Coded.coding bytes.now }
     {
-        match read_head(bytes) {
+        match read_record::<HeadRecord>(bytes) {
             Some((head, len)) if head_allowed::<C>(head) => {
                 let count = count_lines::<C>(bytes, head, len)?;
                 Ok(Image { bytes, head, count })
@@ -67,7 +68,7 @@ impl<'a> Image<'a> {
         let at = HEAD_LEN + k * len;
         let line = self.bytes.get(at..at + len)?;
         Some(Part {
-            number: read_u16(&line[4..PAYLOAD_AT])?,
+            number: u16::read(&line[4..PAYLOAD_AT])?,
             offset: at + PAYLOAD_AT,
             payload: &line[PAYLOAD_AT..],
         })
@@ -127,7 +128,7 @@ fn check_end(rest: &[u8], head: Head, count: u16, at: usize) -> Result<(), Unlaw
     ensures { result ≡ end_of head count at rest.now }
 {
     let all_there = head.mode == Mode::Partial || count == head.n;
-    match read_end(rest) {
+    match read_record::<EndRecord>(rest) {
         Some((told, len)) if told == count && all_there => {
             if len == rest.len() {
                 Ok(())
@@ -148,7 +149,7 @@ fn count_lines<C: Coded>(bytes: &[u8], head: Head, start: usize) -> Result<u16, 
     let mut offset = start;
     let mut low = 0;
     let mut count = 0;
-    while let Some((line, len)) = read_line::<C>(&bytes[offset..]) {
+    while let Some((line, len)) = read_record::<LineRecord<C>>(&bytes[offset..]) {
         if !in_turn(head, low, line.number) {
             return Err(Unlawful { offset });
         }

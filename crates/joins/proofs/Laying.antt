@@ -1,49 +1,13 @@
 -- Bytes that are written into memory, each piece behind the one before.
 use Rattle.images.specs.Images.{lines_bytes}
-use Rattle.std.proofs.Common.{◌≡◌, ℕ, ◌+◌, ◌-◌, ◌≤◌, List, [], ◌∷◌, ◌++◌, length, take, drop, Some, None, Option, sym, refl, ap, ◌∙◌, inl, inr, arith}
-use borrow.Rule.Slice.PartMut.{put_mid, same_len_mid}
-use Rattle.std.proofs.lemmas.List.{append_assoc, append-nil, drop_all, drop_at, drop-drop, length-append, length-drop, length-take-le, take-append-drop, take_at, take_rest}
-use Rattle.std.proofs.lemmas.Bool.{cases_lt}
-use Rattle.std.specs.Option.{option_map}
+use Rattle.std.proofs.Common.{◌≡◌, ℕ, ◌+◌, ◌≤◌, List, [], ◌∷◌, ◌++◌, length, take, drop, Some, None, Option, sym, refl, ap, ◌∙◌, arith}
+use Rattle.std.proofs.lemmas.List.{append_assoc, append-nil, drop_at, drop-drop, length-append, length-drop, length-take-le, take-append-drop, take_at}
 use Rattle.lines.specs.Bytes.{overwritten, put, room}
-use Rattle.lines.proofs.Payloads.{put_fits, put-short}
 use Rattle.lines.specs.Coding.{Coding}
 use Rattle.records.specs.declared.image_lines.ImageLine.{ImageLine}
 use Rattle.records.specs.Framing.{bytes_of}
 use Rattle.records.specs.ImageLines.{line_record}
 use Rattle.joins.specs.Merging.{Laid}
-
--- what is put at the front of memory leaves it as long as it was
-length-put : (bs m : List ℕ) → length (put bs m) ≡ length m
-length-put bs m = elim (cases_lt (length m) (length bs)) [
-  | inl short ↦ ap length (put-short bs m short).1
-  | inr fits ↦ ap length (put_fits bs m fits).1 ∙ omega (arith, length-append bs (drop (length bs) m), length-drop (length bs) m)
-]
-
--- a writer that was lent the memory from at on, and what it answered
-module _ (m : List ℕ) (at : ℕ) (inside : at ≤ length m) (bs : List ℕ) (t : List ℕ) (after : t ≡ put bs (take (length m - at) (drop at m))) where
-  rest_long : length (drop at m) ≡ length m - at
-  rest_long = length-drop at m
-
-  same_size : length (put_mid at (length m - at) m t) ≡ length m
-  same_size = same_len_mid at (length m - at) m t (ap length after ∙ length-put bs (take (length m - at) (drop at m)))
-
-  pub laid_within : (u : ℕ) → Some u ≡ room bs (take (length m - at) (drop at m)) → at + u ≤ length (put_mid at (length m - at) m t)
-  laid_within u answer =
-      let here : Some u ≡ room bs (drop at m) = answer ∙ rw (take_rest m at) in
-      rw same_size (elim (cases_lt (length (drop at m)) (length bs)) [
-        | inl short ↦ let none : Some u ≡ None = here ∙ (put-short bs (drop at m) short).0 in absurd (cc)
-        | inr fits ↦ let some : Some u ≡ Some (length bs) = here ∙ (put_fits bs (drop at m) fits).0 in let is : u ≡ length bs = cc in omega (arith, rest_long)
-      ])
-
-  pub laid : (r : Option ℕ) → r ≡ room bs (take (length m - at) (drop at m)) → Laid bs m at (put_mid at (length m - at) m t) (option_map (λ n. at + n) r)
-  laid r answer h =
-      let fits : length bs ≤ length (drop at m) = omega (arith, rest_long) in
-      let put_is = put_fits bs (drop at m) fits in
-      let none : drop (length m - at) (drop at m) ≡ [] = drop_all (length m - at) (drop at m) (omega (arith, rest_long)) in (
-        rw (answer, take_rest m at, put_is.0),
-        rw (after, take_rest m at, put_is.1, none, append-nil (bs ++ drop (length bs) (drop at m)), drop-drop (length bs) at m),
-      )
 
 module _ (m : List ℕ) (at : ℕ) (inside : at ≤ length m) where
   pub overwritten_none : m ≡ overwritten m at []
@@ -84,13 +48,6 @@ none_laid m at bs cs n o e first room =
     let sizes = length-append bs cs in
     let p = (first (omega arith)).0 in
     absurd (cc)
-
--- a piece at the very front
-pub laid_first : (m : List ℕ) (bs n : List ℕ) (r : Option ℕ) → r ≡ room bs m → n ≡ put bs m → Laid bs m 0 n r
-laid_first m bs n r answer after h =
-    let fits = put_fits bs m (omega arith) in
-    let none : 0 + length bs ≡ length bs = omega arith in
-    (rw (answer, fits.0, none), after ∙ rw (fits.1, none))
 
 -- lines written from start on into memory m, up to the offset at: out is what it holds now, and the lines left are still to come
 pub record SoFar {L : Type 0} (f : Coding L) (all left : List (ImageLine L)) (m : List ℕ) (start : ℕ) (out : List ℕ) (at : ℕ) : Type 0 where

@@ -10,9 +10,9 @@ use crate::faults::JoinFault;
 use crate::merged::Merged;
 use images::reader::Image;
 use lines::traits::Coded;
+use records::frames::{Record, write_record};
 use records::heads::{Head, Mode};
-use records::image_lines::ImageLine;
-use records::images::{write_end, write_head, write_line};
+use records::images::{EndRecord, HeadRecord, LineRecord};
 
 // The length of a head record, of a line record but for its payload, and of an end record.
 const HEAD_LEN: usize = 16;
@@ -21,13 +21,13 @@ const LINE_FRAME: usize = 6;
 
 const END_LEN: usize = 6;
 
-// Writes a line record from `at` on and answers the offset behind it; none where there is no room for it.
-fn put_line<C: Coded>(out: &mut [u8], at: usize, line: ImageLine<C>) -> Option<usize>
+// Writes the record of a value from `at` on and answers the offset behind it; none where there is no room for it.
+fn put<R: Record>(out: &mut [u8], at: usize, value: &R::Value) -> Option<usize>
     requires { at ≤ length out.old }
     ensures within { IfSome result (λ end. end ≤ length out.new) }
-    ensures put { Laid (bytes_of (line_record C.Coded.coding) line) out.old at out.new result }
+    ensures put { Laid (bytes_of R.layout value.now) out.old at out.new result }
 {
-    let len = write_line(&mut out[at..], line.number, &line.line)?;
+    let len = write_record::<R>(&mut out[at..], value)?;
     Some(at + len)
 }
 
@@ -86,7 +86,7 @@ impl<'a> Pair<'a> {
     {
         let mut at = start;
         for line in self.lines::<C>() {
-            at = put_line(out, at, line)?;
+            at = put::<LineRecord<C>>(out, at, &line)?;
         }
         Some(at)
     }
@@ -96,10 +96,9 @@ impl<'a> Pair<'a> {
     fn write<C: Coded>(self, out: &mut [u8], count: u16) -> Option<usize>
         ensures { WhereJoined C.Coded.coding self.entry (λ c. count ≡ length c.lines → Laid (writing C.Coded.coding c) out.old 0 out.new result) }
     {
-        let start = write_head(out, self.head())?;
+        let start = put::<HeadRecord>(out, 0, &self.head())?;
         let at = self.write_lines::<C>(out, start)?;
-        let len = write_end(&mut out[at..], count)?;
-        Some(at + len)
+        put::<EndRecord>(out, at, &count)
     }
 
     // Joins the two. A refusal writes nothing.

@@ -3,7 +3,7 @@
 
 pub mod commands;
 pub mod entries;
-mod frames;
+pub mod frames;
 pub mod heads;
 pub mod image_lines;
 pub mod images;

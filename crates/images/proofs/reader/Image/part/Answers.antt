@@ -18,5 +18,5 @@ pub returns : goal.returns
 returns g c =
     let s = c.args.self in
     let cut = c.in_ok-line.ensures.lookup.0 in
-    let found = part_found g.C.Coded.coding s.bytes.now c.in_ok-line.line.now s.count c.args.k c.width-len.result c.in_ok-read_u16.field-0 c.width-len.ensures (omega arith) cut.1 cut.2 c.in_ok-read_u16.ensures in
+    let found = part_found g.C.Coded.coding s.bytes.now c.in_ok-line.line.now s.count c.args.k c.width-len.result c.in_ok-read.field-0 c.width-len.ensures (omega arith) cut.1 cut.2 c.in_ok-read.ensures in
     record { answer = found; lawful = hands_part g.C.Coded.coding g.met.C.Coded.lawful s.bytes.now s.count c.args.k _ found }

@@ -22,7 +22,7 @@ pub enum RebuildFault {
 impl From<RebuildFault> for Refusal {
     ghost from_gives = { λ fault r. r ≡ rebuild_refusal fault };
 
-    // A point is cast, since the library converts no u32 to a usize by From.
+    // No From widens a u32 to a usize, so that a point is cast, of which the check shows that it loses nothing.
     fn from(fault: RebuildFault) -> Refusal {
         match fault {
             RebuildFault::Image(unlawful) => unlawful.into(),

@@ -24,7 +24,6 @@ impl From<JoinFault> for Refusal {
         match fault {
             JoinFault::Earlier(fault) | JoinFault::Later(fault) => Refusal::from(fault),
             // No From widens a u32 to a usize, so that it is a cast, of which the check shows that it loses nothing.
-            // Cast, since the library converts no u32 to a usize by From.
             JoinFault::Apart(point) => Refusal::new(7, Layer::Image, point as usize),
             JoinFault::Short(needed) => Refusal::new(4, Layer::Image, needed),
         }

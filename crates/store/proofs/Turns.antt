@@ -42,8 +42,7 @@ lowest_none p [] empty e s = empty
 lowest_none p (x ∷ xs) empty e s = here (p x) refl (λ e. lowest_none p xs empty e) e s
   where
     rest_none : (o : Option ℕ) → option_map (λ s. WaitsForSeat s) (option_map (λ i. suc i) o) ≡ None → option_map (λ s. WaitsForSeat s) o ≡ None
-    rest_none None e = refl
-    rest_none (Some i) e = let z : ◌≡◌ {A = ℕ} 0 1 = cc in absurd (omega arith)
+    rest_none o e = grind arith
 
     here : (b : Bool) → p x ≡ b → (option_map (λ s. WaitsForSeat s) (lowest p xs) ≡ None → (s : ℕ) → p (get_or xs s None) ≡ false)
         → option_map (λ s. WaitsForSeat s) (cond b (Some 0) (option_map (λ i. suc i) (lowest p xs))) ≡ None → (s : ℕ) → p (get_or (x ∷ xs) s None) ≡ false

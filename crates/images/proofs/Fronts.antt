@@ -1,8 +1,9 @@
 -- Lines in their turn, and the records of an image piece by piece.
-use Rattle.std.proofs.Common.{◌≡◌, ℕ, suc, ◌+◌, ◌^◌, ◌<◌, ◌≤◌, true, ltb, List, [], ◌∷◌, ◌++◌, map, length, refl, ap, arith}
-use Rattle.std.proofs.lemmas.List.{append_assoc, append-nil}
+use Rattle.std.proofs.Common.{◌≡◌, ℕ, suc, ◌+◌, ◌^◌, ◌<◌, ◌≤◌, true, ltb, List, [], ◌∷◌, ◌++◌, map, length, refl, arith}
+use Rattle.std.proofs.lemmas.List.{append-nil}
 use Rattle.std.proofs.lemmas.Bool.{and_from, eqb-true, eq-eqb, le-leb, lt-ltb}
-use Rattle.std.specs.List.{flat_map as joined}
+use Rattle.std.proofs.lemmas.Grind.{flat_map-append}
+use Rattle.std.proofs.lemmas.List.Folds.{flat_map-map}
 use Rattle.lines.specs.Coding.{Coding}
 use Rattle.records.specs.declared.heads.Head.{Head}
 use Rattle.records.specs.declared.heads.Mode.{Mode}
@@ -12,7 +13,7 @@ use Rattle.records.specs.Framing.{bytes_of}
 use Rattle.records.specs.Heads.{head_record}
 use Rattle.records.specs.ImageLines.{line_record, line_fits}
 use Rattle.records.specs.Numbers.{end_record}
-use Rattle.images.specs.Images.{Content, head_of, flat, writing, Rising, lines_bytes}
+use Rattle.images.specs.Images.{Content, head_of, writing, Rising, lines_bytes}
 use Rattle.images.specs.Reading.{follows, in_turn, all_there}
 use Rattle.images.proofs.Walk.{turn_bounds}
 
@@ -62,21 +63,13 @@ pub complete-due : (m : Mode) (n count : ℕ) → all_there m n count ≡ true �
 complete-due Full n count d = eqb-true count n d
 complete-due Partial n count d = tt
 
-pub flat_append : (rs ss : List (List ℕ)) → flat (rs ++ ss) ≡ flat rs ++ flat ss
-flat_append [] ss = refl
-flat_append (r ∷ rs) ss = rw (flat_append rs ss, append_assoc r (flat rs) (flat ss))
-
-pub flat_map : {X : Type 0} (g : X → List ℕ) (xs : List X) → flat (map g xs) ≡ joined g xs
-flat_map g [] = refl
-flat_map g (x ∷ xs) = ap (λ r. g x ++ r) (flat_map g xs)
-
 module _ {L : Type 0} (f : Coding L) where
   -- an image is its head, its lines and its end
   pub writing-parts : (c : Content L) → writing f c ≡ bytes_of head_record (head_of f c) ++ (lines_bytes f c.lines ++ bytes_of end_record (length c.lines))
   unfolding writing
   writing-parts c =
       let end = bytes_of end_record (length c.lines) in
-      rw (flat_append (map (bytes_of (line_record f)) c.lines) (end ∷ []), flat_map (bytes_of (line_record f)) c.lines, append-nil end)
+      rw (flat_map-append (λ r. r) (map (bytes_of (line_record f)) c.lines) (end ∷ []), flat_map-map (λ r. r) (bytes_of (line_record f)) c.lines, append-nil end)
 
   -- a line of an image fits its record
   pub line_fit : (v : ImageLine L) (n : ℕ) → v.number < n → n ≤ 1024 → f.keeps v.line ≡ true → line_fits f v ≡ true

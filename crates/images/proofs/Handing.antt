@@ -1,12 +1,13 @@
 -- The parts that a reader hands out: where they stand, and what they hold in a lawful image.
-use Rattle.std.proofs.Common.{◌≡◌, ℕ, zero, suc, ◌+◌, ◌-◌, ◌*◌, ◌<◌, ◌≤◌, true, eqb, ltb, leb, List, [], ◌∷◌, ◌++◌, length, take, drop, Some, None, Option, sym, refl, ap, ◌∙◌, inl, inr, suc-mul, zero-mul, arith}
+use Rattle.std.proofs.Common.{◌≡◌, ℕ, zero, suc, ◌+◌, ◌-◌, ◌*◌, ◌<◌, ◌≤◌, true, ltb, leb, List, [], ◌∷◌, ◌++◌, length, take, drop, Some, None, Option, sym, refl, ap, ◌∙◌, suc-mul, zero-mul, arith}
 use Rattle.std.proofs.lemmas.List.{append_assoc, drop_at, drop-drop, drop-take, length-append, take_at, take_rest, take-take}
-use Rattle.std.proofs.lemmas.Bool.{and_from, and_right, cases_Bool, le-leb, le-ltb, lt-leb, lt-ltb}
+use Rattle.std.proofs.lemmas.Bool.{and_from, and_right, le-leb, le-ltb, lt-leb, lt-ltb}
+use Rattle.std.proofs.lemmas.Option.{slice_get_within}
 use Rattle.std.specs.Option.{option_map}
 use Rattle.std.specs.List.{AllByRecursion, slice_get}
 use Rattle.lines.specs.Bytes.{le, number, whole}
 use Rattle.lines.specs.Coding.{Coding, Lawful}
-use Rattle.lines.proofs.LittleEndian.{length-le, number-le}
+use Rattle.lines.proofs.LittleEndian.{length-le, number-le, whole_some}
 use Rattle.records.specs.declared.image_lines.ImageLine.{ImageLine}
 use Rattle.records.specs.Framing.{framed, bytes_of}
 use Rattle.records.specs.Heads.{head_record}
@@ -37,25 +38,17 @@ module _ (bs : List ℕ) (at w : ℕ) where
 
 pub nth_none : {X : Type 0} (xs : List X) (k : ℕ) → slice_get xs k ≡ None → length xs ≤ k
 nth_none [] k e = omega arith
-nth_none (x ∷ xs) zero e = let z : ◌≡◌ {A = ℕ} 0 1 = cc in absurd (omega arith)
+nth_none (x ∷ xs) zero e = absurd (cc)
 nth_none (x ∷ xs) (suc k) e = omega (arith, nth_none xs k e)
 
--- the number that two bytes hold
-whole_some : (bs : List ℕ) (n : ℕ) → Some n ≡ whole 2 bs → n ≡ number bs
-whole_some bs n e = elim (cases_Bool (eqb (length bs) 2)) [
-  | inl t ↦ let some : Some n ≡ Some (number bs) = rw t at e in cc
-  | inr no_two ↦ let none : Some n ≡ None = rw no_two at e in let z : ◌≡◌ {A = ℕ} 0 1 = cc in absurd (omega arith)
-]
-
 module _ {L : Type 0} (f : Coding L) where
-  pub part_found : (bs : List ℕ) (count k w n : ℕ) → w ≡ f.width → k < count → (16 + k * (6 + w)) + (6 + w) ≤ length bs
-      → Some n ≡ whole 2 (take 2 (drop 4 (line_slice bs (16 + k * (6 + w)) w)))
-      → Some (record { number = n; offset = (16 + k * (6 + w)) + 6; payload = take (length (line_slice bs (16 + k * (6 + w)) w) - 6) (drop 6 (line_slice bs (16 + k * (6 + w)) w)) }) ≡ part_of f bs count k
-  part_found bs count k w n wide low room e =
+  pub part_found : (bs s : List ℕ) (count k w n : ℕ) → w ≡ f.width → k < count → (16 + k * (6 + w)) + (6 + w) ≤ length bs → s ≡ line_slice bs (16 + k * (6 + w)) w
+      → Some n ≡ whole 2 (take 2 (drop 4 s)) → Some (record { number = n; offset = (16 + k * (6 + w)) + 6; payload = take (length s - 6) (drop 6 s) }) ≡ part_of f bs count k
+  part_found bs s count k w n wide low room is e =
       let at = 16 + k * (6 + w) in
-      let read : n ≡ number (take 2 (drop (at + 4) bs)) = whole_some (take 2 (drop 4 (line_slice bs at w))) n e ∙ ap number (number_slice bs at w) in
+      let read : n ≡ number (take 2 (drop (at + 4) bs)) = sym (whole_some 2 (take 2 (drop 4 (line_slice bs at w))) n (rw is at e)) ∙ ap number (number_slice bs at w) in
       let tests = and_from (ltb k count) (leb (at + (6 + w)) (length bs)) (lt-ltb k count low) (le-leb (at + (6 + w)) (length bs) room) in
-      rw (← wide, tests, read, payload_slice bs at w)
+      rw (← wide, tests, read, is, payload_slice bs at w)
 
   -- a part that was found, and what its payload reads as
   pub line_found : (x : Option Handed) (p : Handed) (o : Option L) → Some p ≡ x → o ≡ f.reading p.payload → line_of (Some p.number) o ≡ line_in_part f x
@@ -96,7 +89,7 @@ module _ {L : Type 0} (f : Coding L) (lawful : Lawful f) where
   -- line records are all of one length, so that the k-th stands behind k of them
   line_at : (vs : List (ImageLine L)) (k : ℕ) (v : ImageLine L) (end : List ℕ) → slice_get vs k ≡ Some v
       → (rest : List ℕ) × (drop (k * (6 + f.width)) (lines_bytes f vs ++ end) ≡ bytes_of (line_record f) v ++ rest) × (k * (6 + f.width) + (6 + f.width) ≤ length (lines_bytes f vs))
-  line_at [] k v end e = let z : ◌≡◌ {A = ℕ} 0 1 = cc in absurd (omega arith)
+  line_at [] k v end e = absurd (cc)
   line_at (x ∷ xs) zero v end e =
       let same : x ≡ v = cc in
       let one = bytes_of (line_record f) x in (
@@ -114,10 +107,10 @@ module _ {L : Type 0} (f : Coding L) (lawful : Lawful f) where
         omega (arith, next.2, length-append one (lines_bytes f xs), line_long x),
       )
 
-  rising_nth : (low n : ℕ) (vs : List (ImageLine L)) (k : ℕ) (v : ImageLine L) → Rising low n vs → slice_get vs k ≡ Some v → (v.number < n) × (k < length vs)
-  rising_nth low n [] k v r e = let z : ◌≡◌ {A = ℕ} 0 1 = cc in absurd (omega arith)
-  rising_nth low n (x ∷ xs) zero v r e = let same : x ≡ v = cc in (rw same at r.1, omega arith)
-  rising_nth low n (x ∷ xs) (suc k) v r e = let next = rising_nth (suc x.number) n xs k v r.2 e in (next.0, omega (arith, next.1))
+  rising_nth : (low n : ℕ) (vs : List (ImageLine L)) (k : ℕ) (v : ImageLine L) → Rising low n vs → slice_get vs k ≡ Some v → v.number < n
+  rising_nth low n [] k v r e = absurd (cc)
+  rising_nth low n (x ∷ xs) zero v r e = let same : x ≡ v = cc in rw same at r.1
+  rising_nth low n (x ∷ xs) (suc k) v r e = rising_nth (suc x.number) n xs k v r.2 e
 
   module _ (c : Content L) (image : LawfulImage f c) (k : ℕ) where
     part_there : (v : ImageLine L) → slice_get c.lines k ≡ Some v → part_of f (writing f c) (length c.lines) k ≡ Some (handing f k v)
@@ -129,15 +122,16 @@ module _ {L : Type 0} (f : Coding L) (lawful : Lawful f) where
         let at = line_offset f k in
         let s = 6 + f.width in
         let low = rising_nth 0 c.n c.lines k v image.rising e in
+        let within = slice_get_within c.lines k v e in
         let few = image.few in
         let line = line_at c.lines k v end e in
         let sixteen : length head ≡ 16 = length-framed 1 (head_record.body (head_of f c)) ∙ rw (length-head (head_of f c)) in
         let there : drop at bs ≡ bytes_of (line_record f) v ++ line.0 = rw (writing-parts f c, ← drop-drop (k * s) 16 (head ++ (vs ++ end)), drop_at head (vs ++ end) 16 sixteen) line.1 in
         let fields = line_fields v line.0 in
-        let first : number (take 2 (drop (at + 4) bs)) ≡ v.number = rw (← drop-drop 4 at bs, there, fields.0) (number-le 2 v.number (omega (arith, low.0))) in
+        let first : number (take 2 (drop (at + 4) bs)) ≡ v.number = rw (← drop-drop 4 at bs, there, fields.0) (number-le 2 v.number (omega arith)) in
         let second : take f.width (drop (at + 6) bs) ≡ f.payload v.line = rw (← drop-drop 6 at bs, there) fields.1 in
         let room : at + s ≤ length bs = rw (writing-parts f c) (omega (arith, length-append head (vs ++ end), length-append vs end, line.2)) in
-        let tests = and_from (ltb k (length c.lines)) (leb (at + s) (length bs)) (lt-ltb k (length c.lines) low.1) (le-leb (at + s) (length bs) room) in
+        let tests = and_from (ltb k (length c.lines)) (leb (at + s) (length bs)) (lt-ltb k (length c.lines) within) (le-leb (at + s) (length bs) room) in
         rw (tests, first, second)
 
     part-lawful : (o : Option (ImageLine L)) → slice_get c.lines k ≡ o → part_of f (writing f c) (length c.lines) k ≡ option_map (handing f k) o
@@ -145,7 +139,7 @@ module _ {L : Type 0} (f : Coding L) (lawful : Lawful f) where
     part-lawful None e = rw (le-ltb k (length c.lines) (nth_none c.lines k e))
 
   kept_nth : (vs : List (ImageLine L)) (k : ℕ) (v : ImageLine L) → AllByRecursion (λ x. f.keeps x.line ≡ true) vs → slice_get vs k ≡ Some v → f.keeps v.line ≡ true
-  kept_nth [] k v h e = let z : ◌≡◌ {A = ℕ} 0 1 = cc in absurd (omega arith)
+  kept_nth [] k v h e = absurd (cc)
   kept_nth (x ∷ xs) zero v h e = let same : x ≡ v = cc in rw same at h.0
   kept_nth (x ∷ xs) (suc k) v h e = kept_nth xs k v h.1 e
 

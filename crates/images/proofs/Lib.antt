@@ -7,3 +7,4 @@ pub mod Written
 pub mod Refused
 mod Outlines
 pub mod Handing
+pub mod Walks

@@ -75,8 +75,8 @@ module _ {L : Type 0} (f : Coding L) (lawful : Lawful f) (bs : List ℕ) (typed 
 
   whole : (h : Head) (len : ℕ) (r : Result (List (ImageLine L)) Unlawful) (c : Content L) → Begun h len → (w : Walked f h 0 0 len (drop len bs) r)
       → Finish h (0 + length w.seen) (len + length (lines_bytes f w.seen)) w.rest w.seen r → with_head h r ≡ Ok c → LawfulImage f c × (bs ≡ writing f c)
-  whole h len r c b w (stopped e) ok = let wrong = sym (ap (with_head h) e) ∙ ok in let z : ◌≡◌ {A = ℕ} 0 1 = cc in absurd (omega arith)
-  whole h len r c b w (trailing all is e) ok = let wrong = sym (ap (with_head h) e) ∙ ok in let z : ◌≡◌ {A = ℕ} 0 1 = cc in absurd (omega arith)
+  whole h len r c b w (stopped e) ok = let wrong = sym (ap (with_head h) e) ∙ ok in absurd (cc)
+  whole h len r c b w (trailing all is e) ok = let wrong = sym (ap (with_head h) e) ∙ ok in absurd (cc)
   whole h len r c b w (closed all is e) ok =
       let vs = w.seen in
       let right : Ok (says h vs) ≡ Ok c = sym (ap (with_head h) e) ∙ ok in
@@ -91,12 +91,12 @@ module _ {L : Type 0} (f : Coding L) (lawful : Lawful f) (bs : List ℕ) (typed 
   lines_walked h len = walked f lawful h h.n 0 0 len (drop len bs) (bytes_behind len bs typed) (omega arith) (omega arith) (read (line_record f) (drop len bs)) refl
 
   only_found : (c : Content L) (o : Option (Head × ℕ)) → read head_record bs ≡ o → behind_head f bs o ≡ Ok c → LawfulImage f c × (bs ≡ writing f c)
-  only_found c None e ok = let z : ◌≡◌ {A = ℕ} 0 1 = cc in absurd (omega arith)
+  only_found c None e ok = absurd (cc)
   only_found c (Some p) e ok = elim (cases_Bool (head_allowed f p.0)) [
     | inl allowed ↦
         let w = lines_walked p.0 p.1 in
         whole p.0 p.1 _ c (begun p.0 p.1 e allowed) w w.finish (rw allowed at ok)
-    | inr other ↦ let wrong : Err _ ≡ Ok c = rw other at ok in let z : ◌≡◌ {A = ℕ} 0 1 = cc in absurd (omega arith)
+    | inr other ↦ let wrong : Err _ ≡ Ok c = rw other at ok in absurd (cc)
   ]
 
   pub only : (c : Content L) → reading f bs ≡ Ok c → LawfulImage f c × (bs ≡ writing f c)

@@ -2,6 +2,7 @@
 use Rattle.std.proofs.Common.{◌≡◌, ℕ, zero, suc, ◌+◌, ◌-◌, ◌≤◌, true, ltb, List, [], ◌∷◌, ◌++◌, map, length, take, drop, Some, None, Ok, Err, Option, Result, sym, refl, ap, ◌∙◌, subst, inl, inr, zero-add, arith}
 use Rattle.std.proofs.ByRecursion.{All-append}
 use Rattle.std.proofs.lemmas.List.{append_assoc, length-append, length-map, map-append, take_at, take_all}
+use Rattle.std.proofs.lemmas.List.Folds.{flat_map-map}
 use Rattle.std.proofs.lemmas.Bool.{and_parts, cases_Bool, eqb-true}
 use Rattle.std.specs.List.{AllByRecursion}
 use Rattle.lines.specs.Bytes.{Bytes}
@@ -19,7 +20,7 @@ use Rattle.images.specs.Images.{Content, flat, records, writing, Rising, LawfulI
 use Rattle.images.specs.Reading.{unlawful, follows, head_allowed, with_head, behind_head, reading, Front, OneImage}
 use Rattle.images.proofs.Accepted.{Finish, Walked, length_end}
 use Rattle.images.proofs.Accepted.Finish.{stopped, trailing, closed}
-use Rattle.images.proofs.Fronts.{Turns, Due, turns_rise, rising_few, complete-due, flat_map}
+use Rattle.images.proofs.Fronts.{Turns, Due, turns_rise, rising_few, complete-due}
 use Rattle.images.proofs.Only.{says, Begun, begun, lawful_says, says_parts, lines_walked, only}
 use Rattle.images.proofs.Written.{back, most}
 
@@ -40,7 +41,7 @@ behind_most low n (v ∷ vs) h r = behind_most (suc v.number) n vs r.1 r.2
 
 full_turn : (m : Mode) (low i : ℕ) → m ≡ Full → follows m low i ≡ true → i ≡ low
 full_turn Full low i e t = eqb-true i low t
-full_turn Partial low i e t = let z : ◌≡◌ {A = ℕ} 0 1 = cc in absurd (omega arith)
+full_turn Partial low i e t = absurd (cc)
 
 -- in a full image that is how many there were
 behind_full : {L : Type 0} (h : Head) (low : ℕ) (vs : List (ImageLine L)) → h.mode ≡ Full → Turns h low vs → behind low vs ≡ low + length vs
@@ -77,7 +78,7 @@ front_lines : {L : Type 0} (f : Coding L) (vs ws : List (ImageLine L)) (end : Li
 front_lines f vs ws end =
     let g = bytes_of (line_record f) in
     let parts : map g (vs ++ ws) ++ end ∷ [] ≡ map g vs ++ (map g ws ++ end ∷ []) = rw (map-append g vs ws, append_assoc (map g vs) (map g ws) (end ∷ [])) in
-    rw (parts, take_at (map g vs) (map g ws ++ end ∷ []) (length vs) (length-map vs g), flat_map g vs)
+    rw (parts, take_at (map g vs) (map g ws ++ end ∷ []) (length vs) (length-map vs g), flat_map-map (λ r. r) g vs)
 
 module _ {L : Type 0} (f : Coding L) (lawful : Lawful f) (bs : List ℕ) (typed : Bytes bs) where
   -- every image begins with nothing
@@ -171,7 +172,7 @@ module _ {L : Type 0} (f : Coding L) (lawful : Lawful f) (bs : List ℕ) (typed 
         subst (λ p. Front f bs p) (ap (λ y. y.offset) u) (whole_front (complete-due h.mode h.n (length w.seen) (rw count at all)) (rw count at is))
     refused_walk o (closed all is e) err x keeps =
         let wrong : Ok (says h w.seen) ≡ Err (unlawful o) = sym (ap (with_head h) e) ∙ err in
-        let z : ◌≡◌ {A = ℕ} 0 1 = cc in absurd (omega arith)
+        absurd (cc)
 
   at_start : (o : ℕ) → ◌≡◌ {A = Result (Content L) Unlawful} (Err (unlawful 0)) (Err (unlawful o)) → Front f bs o
   at_start o e = let u : unlawful 0 ≡ unlawful o = cc in subst (λ p. Front f bs p) (ap (λ y. y.offset) u) nothing

@@ -63,14 +63,14 @@ module _ {L : Type 0} (f : Coding L) (lawful : Lawful f) (h : Head) (few : h.n �
   not_before : (at o : ℕ) (rest : List ℕ) (count : ℕ) (vs : List (ImageLine L)) (len : ℕ) (r : Result (List (ImageLine L)) Unlawful) → Finish h count (at + len) rest vs r → r ≡ Err (unlawful o) → at ≤ o
   not_before at o rest count vs len r (stopped e) is = let u : unlawful (at + len) ≡ unlawful o = cc in omega (arith, ap (λ x. x.offset) u)
   not_before at o rest count vs len r (trailing all end e) is = let u : unlawful ((at + len) + 6) ≡ unlawful o = cc in omega (arith, ap (λ x. x.offset) u)
-  not_before at o rest count vs len r (closed all end e) is = let z : ◌≡◌ {A = ℕ} 0 1 = cc in absurd (omega arith)
+  not_before at o rest count vs len r (closed all end e) is = absurd (cc)
 
   take_none : (j : ℕ) → flat (take j []) ≡ []
   take_none zero = refl
   take_none (suc j) = refl
 
   before_err : (v : ImageLine L) (r : Result (List (ImageLine L)) Unlawful) (u : Unlawful) → before v r ≡ Err u → r ≡ Err u
-  before_err v (Ok vs) u e = let z : ◌≡◌ {A = ℕ} 0 1 = cc in absurd (omega arith)
+  before_err v (Ok vs) u e = absurd (cc)
   before_err v (Err w) u e = e
 
   pub lines_most : (vs : List (ImageLine L)) (j m k low count at : ℕ) (bs rest : List ℕ) (o : ℕ) → Bytes bs → Turns h low vs → AllByRecursion (λ v. f.keeps v.line ≡ true) vs → h.n ≤ count + k → count ≤ low
@@ -86,7 +86,7 @@ module _ {L : Type 0} (f : Coding L) (lawful : Lawful f) (h : Head) (few : h.n �
       let there : flat (take (suc j) (end ∷ [])) ≡ end = rw (take_none j) (append-nil end) in
       let found = end_there k low count at bs rest typed (omega arith) (rw same at all) (rw (there, same) at e) in
       elim (cases_Bool (eqb 6 (length bs))) [
-        | inl last ↦ let wrong : Ok [] ≡ Err (unlawful o) = sym (rw last at found) ∙ err in let z : ◌≡◌ {A = ℕ} 0 1 = cc in absurd (omega arith)
+        | inl last ↦ let wrong : Ok [] ≡ Err (unlawful o) = sym (rw last at found) ∙ err in absurd (cc)
         | inr more ↦
             let past : Err (unlawful (at + 6)) ≡ Err (unlawful o) = sym (rw more at found) ∙ err in
             let u : unlawful (at + 6) ≡ unlawful o = cc in
@@ -152,7 +152,7 @@ module _ {L : Type 0} (f : Coding L) (lawful : Lawful f) (c : Content L) (image 
       there.0 ∙ rw lines
 
   with_head_err : (h : Head) (r : Result (List (ImageLine L)) Unlawful) (u : Unlawful) → with_head h r ≡ Err u → r ≡ Err u
-  with_head_err h (Ok vs) u e = let z : ◌≡◌ {A = ℕ} 0 1 = cc in absurd (omega arith)
+  with_head_err h (Ok vs) u e = absurd (cc)
   with_head_err h (Err w) u e = cc
 
   pub most : (bs : List ℕ) (o : ℕ) → Bytes bs → reading f bs ≡ Err (unlawful o) → (k : ℕ) (rest : List ℕ) → bs ≡ flat (take k (records f c)) ++ rest → length (flat (take k (records f c))) ≤ o

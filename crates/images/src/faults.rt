@@ -10,14 +10,10 @@ pub struct Unlawful {
     pub offset: usize,
 }
 
-impl Unlawful {
-    pub fn refusal(self) -> Refusal
-        ensures { result ≡ unlawful_refusal self }
-    {
-        Refusal {
-            number: 6,
-            layer: Layer::Image,
-            place: self.offset,
-        }
+impl From<Unlawful> for Refusal {
+    ghost from_gives = { λ fault r. r ≡ unlawful_refusal fault };
+
+    fn from(fault: Unlawful) -> Refusal {
+        Refusal::new(6, Layer::Image, fault.offset)
     }
 }

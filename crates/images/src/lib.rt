@@ -2,4 +2,5 @@
 #![tactic(auto)]
 
 pub mod faults;
+pub mod line_walk;
 pub mod reader;

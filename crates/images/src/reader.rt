@@ -4,14 +4,18 @@ ghost use Rattle.std.specs.List.{slice_get};
 ghost use Rattle.std.specs.Option.{option_map};
 ghost use Rattle.images.specs.Images.{Content, LawfulImage, writing};
 ghost use Rattle.images.specs.Parts.{seen, outlined, handed, handing, part_of, line_in_part};
+ghost use Rattle.images.specs.Walks.{lines_at, lines_left};
 ghost use Rattle.images.specs.Reading.{head_allowed, in_turn, end_of, lines_from, counted, reading, OneImage};
 
 use crate::faults::Unlawful;
-use lines::numbers::read_u16;
+use crate::line_walk::Lines;
+use lines::numbers::Number;
 use lines::traits::Coded;
+use records::frames::read_record;
 use records::heads::{Head, Mode};
 use records::image_lines::ImageLine;
-use records::images::{read_end, read_head, read_line};
+use records::images::{EndRecord, HeadRecord, LineRecord};
+use std::marker::PhantomData;
 
 // No book has more lines.
 const MOST: u16 = 1024;
@@ -30,7 +34,7 @@ pub struct Image<'a> {
 }
 
 // A line's payload as a part of the image, and the offset at which it stands there.
-#[derive(Clone, Copy)]
+#[derive(Clone, Copy, PartialEq, Eq)]
 pub struct Part<'a> {
     pub number: u16,
     pub offset: usize,
@@ -43,14 +47,13 @@ impl<'a> Image<'a> {
         ensures answer { seen result ≡ outlined C.Coded.coding bytes.now (reading C.Coded.coding bytes.now) }
         ensures one { OneImage C.Coded.coding bytes.now }
     {
-        let Some((head, len)) = read_head(bytes) else {
-            return Err(Unlawful { offset: 0 });
-        };
-        if !head_allowed::<C>(head) {
-            return Err(Unlawful { offset: 0 });
+        match read_record::<HeadRecord>(bytes) {
+            Some((head, len)) if head_allowed::<C>(head) => {
+                let count = count_lines::<C>(bytes, head, len)?;
+                Ok(Image { bytes, head, count })
+            }
+            _ => Err(Unlawful { offset: 0 }),
         }
-        let count = count_lines::<C>(bytes, head, len)?;
-        Ok(Image { bytes, head, count })
     }
 
     // The part of line k, counted from 0 as the lines stand in the image.
@@ -58,17 +61,14 @@ impl<'a> Image<'a> {
         ensures answer { option_map handed result ≡ part_of C.Coded.coding self.entry.bytes.now self.entry.count k }
         ensures lawful { (c : Content C) → LawfulImage C.Coded.coding c → self.entry.bytes.now ≡ writing C.Coded.coding c → self.entry.count ≡ length c.lines → option_map handed result ≡ option_map (handing C.Coded.coding k) (slice_get c.lines k) }
     {
-        if k >= self.count as usize {
+        if k >= usize::from(self.count) {
             return None;
         }
         let len = PAYLOAD_AT + C::width();
         let at = HEAD_LEN + k * len;
-        if self.bytes.len() < at + len {
-            return None;
-        }
-        let line = &self.bytes[at..at + len];
+        let line = self.bytes.get(at..at + len)?;
         Some(Part {
-            number: read_u16(&line[4..PAYLOAD_AT])?,
+            number: u16::read(&line[4..PAYLOAD_AT])?,
             offset: at + PAYLOAD_AT,
             payload: &line[PAYLOAD_AT..],
         })
@@ -85,6 +85,18 @@ impl<'a> Image<'a> {
             number: part.number,
             line,
         })
+    }
+
+    // All lines, in order.
+    pub fn lines<C: Coded>(self) -> Lines<'a, C>
+        ensures answer { lines_left C.Coded.coding result ≡ lines_at C.Coded.coding self.entry.bytes.now self.entry.count self.entry.count 0 }
+        ensures lawful { (c : Content C) → LawfulImage C.Coded.coding c → self.entry.bytes.now ≡ writing C.Coded.coding c → self.entry.count ≡ length c.lines → lines_left C.Coded.coding result ≡ c.lines }
+    {
+        Lines {
+            image: self,
+            passed: 0,
+            kind: PhantomData,
+        }
     }
 }
 
@@ -115,20 +127,17 @@ fn check_end(rest: &[u8], head: Head, count: u16, at: usize) -> Result<(), Unlaw
     requires { at + length rest.now < 2 ^ 64 }
     ensures { result ≡ end_of head count at rest.now }
 {
-    let Some((told, len)) = read_end(rest) else {
-        return Err(Unlawful { offset: at });
-    };
-    let all_there = match head.mode {
-        Mode::Full => count == head.n,
-        Mode::Partial => true,
-    };
-    if told != count || !all_there {
-        return Err(Unlawful { offset: at });
+    let all_there = head.mode == Mode::Partial || count == head.n;
+    match read_record::<EndRecord>(rest) {
+        Some((told, len)) if told == count && all_there => {
+            if len == rest.len() {
+                Ok(())
+            } else {
+                Err(Unlawful { offset: at + len })
+            }
+        }
+        _ => Err(Unlawful { offset: at }),
     }
-    if len != rest.len() {
-        return Err(Unlawful { offset: at + len });
-    }
-    Ok(())
 }
 
 // How many lines there are from `start` on, up to a lawful end.
@@ -140,7 +149,7 @@ fn count_lines<C: Coded>(bytes: &[u8], head: Head, start: usize) -> Result<u16, 
     let mut offset = start;
     let mut low = 0;
     let mut count = 0;
-    while let Some((line, len)) = read_line::<C>(&bytes[offset..]) {
+    while let Some((line, len)) = read_record::<LineRecord<C>>(&bytes[offset..]) {
         if !in_turn(head, low, line.number) {
             return Err(Unlawful { offset });
         }

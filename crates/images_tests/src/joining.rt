@@ -28,9 +28,10 @@ impl Stored {
 
     // The image without so many of its last bytes.
     fn cut(self, by: usize) -> Stored {
-        let memory = self.memory;
-        let len = self.len.saturating_sub(by);
-        Stored { memory, len }
+        Stored {
+            len: self.len.saturating_sub(by),
+            ..self
+        }
     }
 }
 
@@ -46,36 +47,29 @@ fn write_image<C: Coded>(out: &mut [u8], head: Head, lines: &[ImageLine<C>]) -> 
     at.saturating_add(write_end(&mut out[rest..], count).unwrap_or(0))
 }
 
-fn made<C: Coded>(head: Head, lines: &[ImageLine<C>]) -> Stored {
+fn made<C: Coded>(mode: Mode, n: u16, from: u32, point: u32, lines: &[ImageLine<C>]) -> Stored {
+    let code = C::type_code();
     let mut memory = [0u8; SIZE];
-    let len = write_image(&mut memory, head, lines);
-    Stored { memory, len }
-}
-
-fn full<C: Coded>(n: u16, point: u32, lines: &[ImageLine<C>]) -> Stored {
-    made(
+    let len = write_image(
+        &mut memory,
         Head {
-            code: C::type_code(),
-            mode: Mode::Full,
-            n,
-            from: 0,
-            point,
-        },
-        lines,
-    )
-}
-
-fn partial<C: Coded>(n: u16, from: u32, point: u32, lines: &[ImageLine<C>]) -> Stored {
-    made(
-        Head {
-            code: C::type_code(),
-            mode: Mode::Partial,
+            code,
+            mode,
             n,
             from,
             point,
         },
         lines,
-    )
+    );
+    Stored { memory, len }
+}
+
+fn full<C: Coded>(n: u16, point: u32, lines: &[ImageLine<C>]) -> Stored {
+    made(Mode::Full, n, 0, point, lines)
+}
+
+fn partial<C: Coded>(n: u16, from: u32, point: u32, lines: &[ImageLine<C>]) -> Stored {
+    made(Mode::Partial, n, from, point, lines)
 }
 
 fn stock(number: u16, on_hand: u32) -> ImageLine<StockLine> {
@@ -88,12 +82,7 @@ fn stock(number: u16, on_hand: u32) -> ImageLine<StockLine> {
 
 // Whether memory is as it was before a join.
 fn untouched(memory: &[u8]) -> bool {
-    for b in memory {
-        if *b != 7 {
-            return false;
-        }
-    }
-    true
+    memory.iter().all(|b| *b == 7)
 }
 
 // Two images joined; no bytes, where they are refused.
@@ -112,22 +101,12 @@ fn gives<C: Coded>(earlier: &Stored, later: &Stored, wanted: &Stored) -> bool {
 // Why two images are not joined in so many bytes of memory; none, where they are, or where the memory changed.
 fn refusal<C: Coded>(earlier: &Stored, later: &Stored, room: usize) -> Option<JoinFault> {
     let mut memory = [7u8; SIZE];
-    refusal_in::<C>(earlier, later, &mut memory, room)
-}
-
-fn refusal_in<C: Coded>(
-    earlier: &Stored,
-    later: &Stored,
-    memory: &mut [u8],
-    room: usize,
-) -> Option<JoinFault> {
-    let room = room.min(memory.len());
-    let answer = join::<C>(earlier.bytes(), later.bytes(), &mut memory[0..room]);
-    if untouched(memory) {
-        answer.err()
-    } else {
-        None
-    }
+    let answer = join::<C>(
+        earlier.bytes(),
+        later.bytes(),
+        &mut memory[0..room.min(SIZE)],
+    );
+    answer.err().filter(|_| untouched(&memory))
 }
 
 // A full image of two stock lines at point 1, a partial one from there to 2 that has the second, and the two joined: all in bytes.
@@ -289,33 +268,38 @@ fn widest(rt: HostRuntime) {
 // The length of an image of 1,024 lines that are as wide as can be: no image is longer.
 const LONGEST: usize = 32_790;
 
-fn longest_image(heap: Global, head: Head, first: u64) -> Result<Vec<u8>, AllocError> {
-    let mut lines = Vec::new(heap);
-    for number in 0u16..1_024 {
-        lines.push(wide(number, first))?;
-    }
+fn longest_image(
+    heap: Global,
+    mode: Mode,
+    from: u32,
+    point: u32,
+    first: u64,
+) -> Result<Vec<u8>, AllocError> {
+    let code = <WideLine as Coded>::type_code();
+    let n = 1_024;
+    let lines: Vec<ImageLine<WideLine>> = (0..n).map(|number| wide(number, first)).collect(heap)?;
     let mut bytes = vec![in heap; 0u8; LONGEST]?;
-    let _len = write_image(bytes.as_mut_slice(), head, lines.as_slice());
+    let _len = write_image(
+        bytes.as_mut_slice(),
+        Head {
+            code,
+            mode,
+            n,
+            from,
+            point,
+        },
+        lines.as_slice(),
+    );
     Ok(bytes)
-}
-
-fn head_of_1024(mode: Mode, from: u32, point: u32) -> Head {
-    Head {
-        code: <WideLine as Coded>::type_code(),
-        mode,
-        n: 1_024,
-        from,
-        point,
-    }
 }
 
 // Every line is in both images, so that the result has the later's.
 #[test]
 fn longest(rt: HostRuntime) -> Result<(), Fail> {
     let heap = rt.alloc();
-    let earlier = longest_image(heap, head_of_1024(Mode::Full, 0, 1), 10)?;
-    let later = longest_image(heap, head_of_1024(Mode::Partial, 1, 2), 20)?;
-    let wanted = longest_image(heap, head_of_1024(Mode::Full, 0, 2), 20)?;
+    let earlier = longest_image(heap, Mode::Full, 0, 1, 10)?;
+    let later = longest_image(heap, Mode::Partial, 1, 2, 20)?;
+    let wanted = longest_image(heap, Mode::Full, 0, 2, 20)?;
     let mut memory = vec![in heap; 7u8; LONGEST]?;
     let answer = join::<WideLine>(earlier.as_slice(), later.as_slice(), memory.as_mut_slice());
     assert!(rt; answer == Ok(LONGEST));

@@ -1,5 +1,4 @@
 // Each refusal of the reader at each of its offsets, every damage of one byte, and the parts that are handed out.
-use images::faults::Unlawful;
 use images::reader::{Image, Part};
 use kinds::stocks::StockLine;
 use std::test::Fail;
@@ -21,17 +20,15 @@ const PARTIAL: [u8; 50] = *b"\
 
 // The offset at which bytes are refused; none, where they are an image.
 fn refused_at(bytes: &[u8]) -> Option<usize> {
-    match Image::read::<StockLine>(bytes) {
-        Ok(_) => None,
-        Err(Unlawful { offset }) => Some(offset),
-    }
+    Image::read::<StockLine>(bytes)
+        .err()
+        .map(|fault| fault.offset)
 }
 
 // The same of an image with one byte changed.
-fn changed(image: [u8; 50], at: usize, value: u8) -> Option<usize> {
-    let mut image = image;
-    if at < 50 {
-        image[at] = value;
+fn changed(mut image: [u8; 50], at: usize, value: u8) -> Option<usize> {
+    if let Some(byte) = image.get_mut(at) {
+        *byte = value;
     }
     refused_at(&image)
 }
@@ -39,14 +36,19 @@ fn changed(image: [u8; 50], at: usize, value: u8) -> Option<usize> {
 #[test]
 fn heads(rt: HostRuntime) {
     assert_eq!(rt; refused_at(&[]), Some(0));
-    // length, record kind, type code, mode
-    assert_eq!(rt; changed(FULL, 0, 17), Some(0));
-    assert_eq!(rt; changed(FULL, 2, 2), Some(0));
-    assert_eq!(rt; changed(FULL, 4, 1), Some(0));
-    assert_eq!(rt; changed(FULL, 5, 2), Some(0));
-    // a full image from 1, and one at point 0
-    assert_eq!(rt; changed(FULL, 8, 1), Some(0));
-    assert_eq!(rt; changed(FULL, 12, 0), Some(0));
+    let damaged = [
+        // length, record kind, type code, mode
+        (0, 17),
+        (2, 2),
+        (4, 1),
+        (5, 2),
+        // a full image from 1, and one at point 0
+        (8, 1),
+        (12, 0),
+    ];
+    for (at, value) in damaged {
+        assert_eq!(rt; changed(FULL, at, value), Some(0));
+    }
     // a partial image from its own point, and from a later one
     assert_eq!(rt; changed(PARTIAL, 8, 2), Some(0));
     assert_eq!(rt; changed(PARTIAL, 8, 3), Some(0));
@@ -67,31 +69,41 @@ fn most_lines(rt: HostRuntime) {
 #[test]
 fn lines_of_full_images(rt: HostRuntime) {
     assert_eq!(rt; refused_at(&FULL), None);
-    // another length, another record kind
-    assert_eq!(rt; changed(FULL, 16, 13), Some(16));
-    assert_eq!(rt; changed(FULL, 16, 15), Some(16));
-    assert_eq!(rt; changed(FULL, 32, 3), Some(30));
-    // line 0 is skipped, line 0 comes again, line 2 of two
-    assert_eq!(rt; changed(FULL, 20, 1), Some(16));
-    assert_eq!(rt; changed(FULL, 34, 0), Some(30));
-    assert_eq!(rt; changed(FULL, 34, 2), Some(30));
-    // more pieces reserved than there are
-    assert_eq!(rt; changed(FULL, 26, 4), Some(16));
-    assert_eq!(rt; changed(FULL, 36, 4), Some(30));
+    let damaged = [
+        // another length, another record kind
+        (16, 13, 16),
+        (16, 15, 16),
+        (32, 3, 30),
+        // line 0 is skipped, line 0 comes again, line 2 of two
+        (20, 1, 16),
+        (34, 0, 30),
+        (34, 2, 30),
+        // more pieces reserved than there are
+        (26, 4, 16),
+        (36, 4, 30),
+    ];
+    for (at, value, wanted) in damaged {
+        assert_eq!(rt; changed(FULL, at, value), Some(wanted));
+    }
 }
 
 #[test]
 fn lines_of_partial_images(rt: HostRuntime) {
     assert_eq!(rt; refused_at(&PARTIAL), None);
-    // any first number, and any above the one before
-    assert_eq!(rt; changed(PARTIAL, 20, 0), None);
-    assert_eq!(rt; changed(PARTIAL, 34, 2), None);
-    assert_eq!(rt; changed(PARTIAL, 34, 4), None);
-    // the number before, one below it, and line 5 of five
-    assert_eq!(rt; changed(PARTIAL, 34, 1), Some(30));
-    assert_eq!(rt; changed(PARTIAL, 34, 0), Some(30));
-    assert_eq!(rt; changed(PARTIAL, 34, 5), Some(30));
-    assert_eq!(rt; changed(PARTIAL, 20, 5), Some(16));
+    let damaged = [
+        // any first number, and any above the one before
+        (20, 0, None),
+        (34, 2, None),
+        (34, 4, None),
+        // the number before, one below it, and line 5 of five
+        (34, 1, Some(30)),
+        (34, 0, Some(30)),
+        (34, 5, Some(30)),
+        (20, 5, Some(16)),
+    ];
+    for (at, value, wanted) in damaged {
+        assert_eq!(rt; changed(PARTIAL, at, value), wanted);
+    }
 }
 
 #[test]
@@ -180,33 +192,46 @@ fn damages(rt: HostRuntime) {
     }
 }
 
-fn is_part(part: Option<Part>, number: u16, offset: usize, payload: &[u8]) -> bool {
-    match part {
-        Some(part) => part.number == number && part.offset == offset && part.payload == payload,
-        None => false,
-    }
-}
-
 #[test]
 fn parts(rt: HostRuntime) -> Result<(), Fail> {
     let Ok(image) = Image::read::<StockLine>(&PARTIAL) else {
         return Err(Fail::new("not read"));
     };
     assert_eq!(rt; image.count, 2);
-    assert!(rt; is_part(image.part::<StockLine>(0), 1, 22, &PARTIAL[22..30]));
-    assert!(rt; is_part(image.part::<StockLine>(1), 3, 36, &PARTIAL[36..44]));
+    let first = Part {
+        number: 1,
+        offset: 22,
+        payload: &PARTIAL[22..30],
+    };
+    let last = Part {
+        number: 3,
+        offset: 36,
+        payload: &PARTIAL[36..44],
+    };
+    assert!(rt; image.part::<StockLine>(0) == Some(first));
+    assert!(rt; image.part::<StockLine>(1) == Some(last));
     assert!(rt; image.part::<StockLine>(2).is_none());
     assert!(rt; image.line::<StockLine>(2).is_none());
     let Some(last) = image.line::<StockLine>(1) else {
         return Err(Fail::new("no line"));
     };
     assert_eq!(rt; last.number, 3);
-    assert!(rt;
-        last.line
-            == StockLine {
-                on_hand: 5,
-                reserved: 5,
-            }
-    );
+    let wanted = StockLine {
+        on_hand: 5,
+        reserved: 5,
+    };
+    assert!(rt; last.line == wanted);
+    Ok(())
+}
+
+// The lines one by one, at a concrete kind.
+#[test]
+fn lines_in_order(rt: HostRuntime) -> Result<(), Fail> {
+    let Ok(image) = Image::read::<StockLine>(&PARTIAL) else {
+        return Err(Fail::new("not read"));
+    };
+    let numbers = image.lines::<StockLine>().map(|found| found.number);
+    assert!(rt; numbers.eq([1, 3]));
+    assert_eq!(rt; image.lines::<StockLine>().count(), 2);
     Ok(())
 }

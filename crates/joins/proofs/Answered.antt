@@ -1,7 +1,8 @@
 -- What a join answers, once both images were read, and what it leaves in memory.
-use Rattle.std.proofs.Common.{◌≡◌, ℕ, ◌+◌, ◌*◌, ◌<◌, ◌≤◌, true, leb, List, ◌++◌, length, take, drop, Ok, Err, Result, sym, refl, ap, ◌∙◌, inl, inr, zero-add, arith}
+use Rattle.std.proofs.Common.{◌≡◌, ℕ, ◌+◌, ◌*◌, ◌<◌, ◌≤◌, true, leb, List, ◌++◌, length, take, drop, Some, Option, Ok, Err, Result, sym, refl, ap, ◌∙◌, inl, inr, zero-add, arith}
 use Rattle.std.proofs.lemmas.List.{take_at}
 use Rattle.std.proofs.lemmas.Bool.{cases_Bool, leb-true, le-leb, lt-leb}
+use Rattle.std.specs.Result.{MatchResult}
 use Rattle.lines.specs.Bytes.{Bytes}
 use Rattle.lines.specs.Coding.{Coding, Lawful}
 use Rattle.lines.proofs.Payloads.{put_fits}
@@ -11,7 +12,7 @@ use Rattle.images.specs.declared.faults.Unlawful.{Unlawful}
 use Rattle.images.specs.declared.reader.Image.{Image}
 use Rattle.images.specs.Images.{Content, LawfulImage, head_of, writing}
 use Rattle.joins.specs.Joining.{join, joins, join_read, joined, within, lengthed, laid_in, JoinLaw}
-use Rattle.joins.specs.Merging.{ReadAs, heads_join, Put}
+use Rattle.joins.specs.Merging.{ReadAs, heads_join, Laid}
 use Rattle.images.specs.Parts.{Outline, seen, outlined}
 use Rattle.images.specs.Reading.{reading, OneImage}
 use Rattle.images.proofs.Fronts.{rising_few}
@@ -19,14 +20,19 @@ use Rattle.joins.proofs.Joined.{join-lawful, length-writing, bytes-writing}
 use Rattle.images.proofs.Only.{only}
 use Rattle.images.proofs.Written.{back}
 
--- an image that the reader answered says something
-pub read_as : {L : Type 0} (f : Coding L) (bs : List ℕ) (image : Image) → OneImage f bs → (r : Result (Content L) Unlawful) → reading f bs ≡ r → seen (Ok image) ≡ outlined f bs r
-    → (c : Content L) × (reading f bs ≡ Ok c) × ReadAs f image c
-read_as f bs image one (Err u) is e = let z : ◌≡◌ {A = ℕ} 0 1 = cc in absurd (omega arith)
-read_as f bs image one (Ok c) is e =
-    let same : ◌≡◌ {A = Outline} (record { bytes = image.bytes.now; head = image.head; count = image.count }) (record { bytes = bs; head = head_of f c; count = length c.lines }) = cc in
-    let was = one.only c is in
-    (c, is, record { lawful = was.0; bytes = ap (λ o. o.bytes) same ∙ was.1; head = ap (λ o. o.head) same; count = ap (λ o. o.count) same })
+module _ {L : Type 0} (f : Coding L) (bs : List ℕ) (one : OneImage f bs) (image : Image) where
+  saying : (r : Result (Content L) Unlawful) → reading f bs ≡ r → seen (Ok image) ≡ outlined f bs r → (c : Content L) × (reading f bs ≡ Ok c) × ReadAs f image c
+  saying (Err u) is e = absurd (cc)
+  saying (Ok c) is e =
+      let same : ◌≡◌ {A = Outline} (record { bytes = image.bytes.now; head = image.head; count = image.count }) (record { bytes = bs; head = head_of f c; count = length c.lines }) = cc in
+      let was = one.only c is in
+      (c, is, record { lawful = was.0; bytes = ap (λ o. o.bytes) same ∙ was.1; head = ap (λ o. o.head) same; count = ap (λ o. o.count) same })
+
+  -- an image that the reader answered, and that a fault in its place would have hidden, says something
+  pub read_as : (answer : Result Image Unlawful) → seen answer ≡ outlined f bs (reading f bs)
+      → MatchResult {T = Image} answer (λ y. ◌≡◌ {A = Result Image JoinFault} (Ok image) (Ok y)) (λ e. ⊥) → (c : Content L) × (reading f bs ≡ Ok c) × ReadAs f image c
+  read_as (Ok y) e h = let same : image ≡ y = cc in saying (reading f bs) refl (rw same e)
+  read_as (Err u) e h = absurd h
 
 module _ {L : Type 0} (f : Coding L) (a b : Content L) (earlier later : Image) (ra : ReadAs f earlier a) (rb : ReadAs f later b) (m : List ℕ) where
   -- the heads tell whether two images join
@@ -40,14 +46,14 @@ module _ {L : Type 0} (f : Coding L) (a b : Content L) (earlier later : Image) (
         let short = lt-leb (length (writing f (join a b))) (length m) (omega arith) in
         (rw (fit, short, is), rw (fit, short))
 
-    pub written : (after : List ℕ) (r : ℕ) → length (writing f (join a b)) ≤ length m → Put (writing f (join a b)) m 0 after r
-        → (Ok r ≡ lengthed (within (length m) (join_read f (Ok a) (Ok b)))) × (after ≡ laid_in m (within (length m) (join_read f (Ok a) (Ok b))))
-    written after r h put =
+    pub written : (after : List ℕ) (r : Option ℕ) (x : Result ℕ JoinFault) → length (writing f (join a b)) ≤ length m → Laid (writing f (join a b)) m 0 after r → ((n : ℕ) → r ≡ Some n → x ≡ Ok n)
+        → (x ≡ lengthed (within (length m) (join_read f (Ok a) (Ok b)))) × (after ≡ laid_in m (within (length m) (join_read f (Ok a) (Ok b))))
+    written after r x h put told =
         let w = writing f (join a b) in
         let fits = le-leb (length w) (length m) h in
         let p = put (omega arith) in
         let none : 0 + length w ≡ length w = zero-add (length w) in
-        (rw (fit, fits) (ap Ok (p.0 ∙ none)), rw (fit, fits) (p.1 ∙ rw none (sym (put_fits w m h).1)))
+        (rw (fit, fits) (told (0 + length w) p.0 ∙ ap Ok none), rw (fit, fits) (p.1 ∙ rw none (sym (put_fits w m h).1)))
 
 -- the join of images that were read has few lines, and its length is known from their number
 module _ {L : Type 0} (f : Coding L) (lawful : Lawful f) (a b : Content L) (earlier : LawfulImage f a) (later : LawfulImage f b) (fit : joins a b ≡ true) where
@@ -58,11 +64,6 @@ module _ {L : Type 0} (f : Coding L) (lawful : Lawful f) (a b : Content L) (earl
 
   pub joined-size : (count w : ℕ) → count ≡ length (join a b).lines → w ≡ f.width → (16 + count * (6 + w)) + 6 ≡ length (writing f (join a b))
   joined-size count w all wide = rw (all, wide) (sym (length-writing f lawful (join a b)))
-
--- an image that the reader refused
-pub read_err : {L : Type 0} (f : Coding L) (bs : List ℕ) (u : Unlawful) (r : Result (Content L) Unlawful) → reading f bs ≡ r → Err u ≡ outlined f bs r → reading f bs ≡ Err u
-read_err f bs u (Ok c) is e = let z : ◌≡◌ {A = ℕ} 0 1 = cc in absurd (omega arith)
-read_err f bs u (Err w) is e = let same : u ≡ w = cc in is ∙ ap Err (sym same)
 
 module _ {L : Type 0} (f : Coding L) (lawful : Lawful f) (x y m : List ℕ) (typed_x : Bytes x) (typed_y : Bytes y) where
   -- a join that is accepted fits the memory and stands at its front
@@ -75,7 +76,7 @@ module _ {L : Type 0} (f : Coding L) (lawful : Lawful f) (x y m : List ℕ) (typ
             let some : Ok (length w) ≡ Ok n = rw fits at ok in
             let same : length w ≡ n = cc in
             (sym same, rw fits ((put_fits w m (leb-true (length w) (length m) fits)).1 ∙ rw same))
-        | inr short ↦ let none : Err (Short (length w)) ≡ Ok n = rw short at ok in let z : ◌≡◌ {A = ℕ} 0 1 = cc in absurd (omega arith)
+        | inr short ↦ let none : Err (Short (length w)) ≡ Ok n = rw short at ok in absurd (cc)
       ]
 
   pub join_law : (r : Result ℕ JoinFault) (after : List ℕ) → r ≡ lengthed (within (length m) (joined f x y)) → after ≡ laid_in m (within (length m) (joined f x y)) → JoinLaw f x y r after
@@ -90,5 +91,5 @@ module _ {L : Type 0} (f : Coding L) (lawful : Lawful f) (x y m : List ℕ) (typ
             let old = (only f lawful x typed_x a rx).0 in
             let new = (only f lawful y typed_y b ry).0 in
             rw front (back f lawful (join a b) (join-lawful f a b old new fit) w (bytes-writing f lawful (join a b)) refl)
-        | inr apart ↦ let none : Err (Apart b.point) ≡ Ok n = rw apart at told in let z : ◌≡◌ {A = ℕ} 0 1 = cc in absurd (omega arith)
+        | inr apart ↦ let none : Err (Apart b.point) ≡ Ok n = rw apart at told in absurd (cc)
       ]

@@ -124,17 +124,17 @@ module _ {L : Type 0} (f : Coding L) (lawful : Lawful f) where
 
   said_some : (r : Result (Content L) Unlawful) (c : Content L) → said r ≡ Some c → r ≡ Ok c
   said_some (Ok d) c e = let same : d ≡ c = cc in ap Ok same
-  said_some (Err u) c e = let z : ◌≡◌ {A = ℕ} 0 1 = cc in absurd (omega arith)
+  said_some (Err u) c e = absurd (cc)
 
   merge_lawful : (x y : Option (Content L)) (c : Content L) → ((a : Content L) → x ≡ Some a → LawfulImage f a) → ((b : Content L) → y ≡ Some b → LawfulImage f b) → merge x y ≡ Some c → LawfulImage f c
-  merge_lawful None y c hx hy e = let z : ◌≡◌ {A = ℕ} 0 1 = cc in absurd (omega arith)
-  merge_lawful (Some a) None c hx hy e = let z : ◌≡◌ {A = ℕ} 0 1 = cc in absurd (omega arith)
+  merge_lawful None y c hx hy e = absurd (cc)
+  merge_lawful (Some a) None c hx hy e = absurd (cc)
   merge_lawful (Some a) (Some b) c hx hy e = elim (cases_Bool (joins a b)) [
     | inl fit ↦
         let some : Some (join a b) ≡ Some c = rw fit at e in
         let same : join a b ≡ c = cc in
         subst (λ d. LawfulImage f d) same (join-lawful f a b (hx a refl) (hy b refl) fit)
-    | inr apart ↦ let none : None ≡ Some c = rw apart at e in let z : ◌≡◌ {A = ℕ} 0 1 = cc in absurd (omega arith)
+    | inr apart ↦ let none : None ≡ Some c = rw apart at e in absurd (cc)
   ]
 
   says_lawful : (t : Tree) → AllByRecursion Bytes (leaves t) → (c : Content L) → says t ≡ Some c → LawfulImage f c

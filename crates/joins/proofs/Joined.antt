@@ -22,7 +22,7 @@ use Rattle.images.proofs.Accepted.{length_end}
 use Rattle.images.proofs.Fronts.{rising_few, writing-parts}
 use Rattle.images.proofs.Handing.{line_long}
 use Rattle.joins.proofs.Listing.{overlay_listed, listed_self, listed_more, rising-listed}
-use Rattle.joins.proofs.Merge.{overlay}
+use Rattle.joins.specs.Merging.{overlay}
 
 -- what makes two images join
 pub joins-parts : {L : Type 0} (a b : Content L) → joins a b ≡ true → (a.n ≡ b.n) × (partial b.mode ≡ true) × (b.from ≡ a.point)
@@ -34,7 +34,7 @@ joins-parts a b h =
 module _ {L : Type 0} (f : Coding L) where
   -- a line of an image keeps its rule
   kept_line : (vs : List (ImageLine L)) (i : ℕ) (x : L) → AllByRecursion (λ v. f.keeps v.line ≡ true) vs → line_of vs i ≡ Some x → f.keeps x ≡ true
-  kept_line [] i x k e = let z : ◌≡◌ {A = ℕ} 0 1 = cc in absurd (omega arith)
+  kept_line [] i x k e = absurd (cc)
   kept_line (v ∷ vs) i x k e = elim (cases_Bool (eqb v.number i)) [
     | inl here ↦ let some : Some v.line ≡ Some x = rw here at e in let same : v.line ≡ x = cc in rw same at k.0
     | inr past ↦ kept_line vs i x k.1 (rw past at e)
@@ -71,7 +71,7 @@ module _ {L : Type 0} (f : Coding L) where
         omega arith
 
     later_from : (m : Mode) → partial m ≡ true → ByMode m b → b.from < b.point
-    later_from Full p by = let z : ◌≡◌ {A = ℕ} 0 1 = cc in absurd (omega arith)
+    later_from Full p by = absurd (cc)
     later_from Partial p by = by
 
     mode-join : (m : Mode) → ByMode m a → ByMode m (join a b)

@@ -1,47 +1,13 @@
 -- Bytes that are written into memory, each piece behind the one before.
 use Rattle.images.specs.Images.{lines_bytes}
-use Rattle.std.proofs.Common.{◌≡◌, ℕ, ◌+◌, ◌-◌, ◌≤◌, List, [], ◌∷◌, ◌++◌, length, take, drop, Option, unwrap_or, sym, refl, ap, ◌∙◌, inl, inr, arith}
-use borrow.Rule.Slice.PartMut.{put_mid, same_len_mid}
-use Rattle.std.proofs.lemmas.List.{append_assoc, append-nil, drop_all, drop_at, drop-drop, length-append, length-drop, length-take-le, take-append-drop, take_at, take_rest}
-use Rattle.std.proofs.lemmas.Bool.{cases_lt}
+use Rattle.std.proofs.Common.{◌≡◌, ℕ, ◌+◌, ◌≤◌, List, [], ◌∷◌, ◌++◌, length, take, drop, Some, None, Option, sym, refl, ap, ◌∙◌, arith}
+use Rattle.std.proofs.lemmas.List.{append_assoc, append-nil, drop_at, drop-drop, length-append, length-drop, length-take-le, take-append-drop, take_at}
 use Rattle.lines.specs.Bytes.{overwritten, put, room}
-use Rattle.lines.proofs.Payloads.{put_fits, put-short}
 use Rattle.lines.specs.Coding.{Coding}
 use Rattle.records.specs.declared.image_lines.ImageLine.{ImageLine}
 use Rattle.records.specs.Framing.{bytes_of}
 use Rattle.records.specs.ImageLines.{line_record}
-use Rattle.joins.specs.Merging.{Put}
-
--- what is put at the front of memory leaves it as long as it was
-length-put : (bs m : List ℕ) → length (put bs m) ≡ length m
-length-put bs m = elim (cases_lt (length m) (length bs)) [
-  | inl short ↦ ap length (put-short bs m short).1
-  | inr fits ↦ ap length (put_fits bs m fits).1 ∙ omega (arith, length-append bs (drop (length bs) m), length-drop (length bs) m)
-]
-
--- a writer that was lent the memory from at on, and answered u
-module _ (m : List ℕ) (at : ℕ) (inside : at ≤ length m) (bs : List ℕ) (r : Option ℕ) (t : List ℕ) (u : ℕ)
-    (answer : r ≡ room bs (take (length m - at) (drop at m))) (after : t ≡ put bs (take (length m - at) (drop at m))) (told : u ≡ unwrap_or r 0) where
-  rest_long : length (drop at m) ≡ length m - at
-  rest_long = length-drop at m
-
-  same_size : length (put_mid at (length m - at) m t) ≡ length m
-  same_size = same_len_mid at (length m - at) m t (ap length after ∙ length-put bs (take (length m - at) (drop at m)))
-
-  pub laid_within : at + u ≤ length (put_mid at (length m - at) m t)
-  laid_within = rw (same_size, told, answer, take_rest m at) (elim (cases_lt (length (drop at m)) (length bs)) [
-    | inl short ↦ rw (put-short bs (drop at m) short).0 (omega arith)
-    | inr fits ↦ rw (put_fits bs (drop at m) fits).0 (omega (arith, rest_long))
-  ])
-
-  pub laid : Put bs m at (put_mid at (length m - at) m t) (at + u)
-  laid h =
-      let fits : length bs ≤ length (drop at m) = omega (arith, rest_long) in
-      let put_is = put_fits bs (drop at m) fits in
-      let none : drop (length m - at) (drop at m) ≡ [] = drop_all (length m - at) (drop at m) (omega (arith, rest_long)) in (
-        rw (told, answer, take_rest m at, put_is.0),
-        rw (after, take_rest m at, put_is.1, none, append-nil (bs ++ drop (length bs) (drop at m)), drop-drop (length bs) at m),
-      )
+use Rattle.joins.specs.Merging.{Laid}
 
 module _ (m : List ℕ) (at : ℕ) (inside : at ≤ length m) where
   pub overwritten_none : m ≡ overwritten m at []
@@ -66,20 +32,22 @@ module _ (m : List ℕ) (at : ℕ) (inside : at ≤ length m) where
       omega (arith, length-append (take at m) (bs ++ rest), length-append bs rest, length-take-le at m inside, length-drop (at + length bs) m)
 
 -- two pieces, the one behind the other
-pub two_puts : (m : List ℕ) (at : ℕ) → at ≤ length m → (bs cs : List ℕ) (n o : List ℕ) (s e : ℕ) → Put bs m at n s → Put cs n s o e → Put (bs ++ cs) m at o e
-two_puts m at inside bs cs n o s e first second room =
+pub two_laid : (m : List ℕ) (at : ℕ) (bs cs : List ℕ) (n o : List ℕ) (s : ℕ) (e : Option ℕ) → Laid bs m at n (Some s) → Laid cs n s o e → Laid (bs ++ cs) m at o e
+two_laid m at bs cs n o s e first second room =
     let sizes = length-append bs cs in
+    let inside : at ≤ length m = omega arith in
     let p = first (omega arith) in
+    let here : s ≡ at + length bs = cc in
     let long : length n ≡ length m = ap length p.1 ∙ length-overwritten m at inside bs (omega arith) in
-    let q = second (omega (arith, p.0)) in
-    (q.0 ∙ omega (arith, p.0), q.1 ∙ rw (p.0, p.1) (overwritten-append m at inside bs cs))
+    let q = second (omega arith) in
+    (q.0 ∙ ap Some (omega arith), q.1 ∙ rw (here, p.1) (overwritten-append m at inside bs cs))
 
--- a piece at the very front
-pub put_first : (m : List ℕ) (bs n : List ℕ) (r : Option ℕ) (s : ℕ) → r ≡ room bs m → n ≡ put bs m → s ≡ unwrap_or r 0 → Put bs m 0 n s
-put_first m bs n r s answer after told h =
-    let fits = put_fits bs m (omega arith) in
-    let none : 0 + length bs ≡ length bs = omega arith in
-    (told ∙ rw (answer, fits.0, none), after ∙ rw (fits.1, none))
+-- where there is no room for the first piece, there is none for both
+pub none_laid : (m : List ℕ) (at : ℕ) (bs cs : List ℕ) (n o : List ℕ) (e : Option ℕ) → Laid bs m at n None → Laid (bs ++ cs) m at o e
+none_laid m at bs cs n o e first room =
+    let sizes = length-append bs cs in
+    let p = (first (omega arith)).0 in
+    absurd (cc)
 
 -- lines written from start on into memory m, up to the offset at: out is what it holds now, and the lines left are still to come
 pub record SoFar {L : Type 0} (f : Coding L) (all left : List (ImageLine L)) (m : List ℕ) (start : ℕ) (out : List ℕ) (at : ℕ) : Type 0 where
@@ -93,22 +61,35 @@ module _ {L : Type 0} (f : Coding L) (all : List (ImageLine L)) (m : List ℕ) (
   none_yet = record { done = []; here = omega arith; held = overwritten_none m start inside; total = refl }
 
   module _ (room : start + length (lines_bytes f all) ≤ length m) (left : List (ImageLine L)) (out : List ℕ) (at : ℕ) (s : SoFar f all left m start out at) where
-    pub one_more : (v : ImageLine L) (rest : List (ImageLine L)) (after : List ℕ) (r : ℕ) → left ≡ v ∷ rest → Put (bytes_of (line_record f) v) out at after r → SoFar f all rest m start after r
-    one_more v rest after r is put =
-        let one = bytes_of (line_record f) v in
-        let done = s.done in
-        let parts : done ++ (one ++ lines_bytes f rest) ≡ lines_bytes f all = ap (λ vs. done ++ lines_bytes f vs) (sym is) ∙ s.total in
-        let sizes = ap length parts in
-        let long : length out ≡ length m = ap length s.held ∙ length-overwritten m start inside done (omega (arith, length-append done (one ++ lines_bytes f rest))) in
-        let p = put (omega (arith, s.here, length-append done (one ++ lines_bytes f rest), length-append one (lines_bytes f rest))) in
-        record {
-          done = done ++ one;
-          here = p.0 ∙ omega (arith, s.here, length-append done one);
-          held = p.1 ∙ rw (s.here, s.held) (overwritten-append m start inside done one);
-          total = append_assoc done one (lines_bytes f rest) ∙ parts;
-        }
+    -- there is room for the next line
+    module _ (v : ImageLine L) (rest : List (ImageLine L)) (is : left ≡ v ∷ rest) where
+      abbrev one : List ℕ
+      one = bytes_of (line_record f) v
 
-    pub all_done : left ≡ [] → (at ≡ start + length (lines_bytes f all)) × (out ≡ overwritten m start (lines_bytes f all))
+      parts : s.done ++ (one ++ lines_bytes f rest) ≡ lines_bytes f all
+      parts = ap (λ vs. s.done ++ lines_bytes f vs) (sym is) ∙ s.total
+
+      fits_next : at + length one ≤ length out
+      fits_next =
+          let sizes = ap length parts in
+          let long : length out ≡ length m = ap length s.held ∙ length-overwritten m start inside s.done (omega (arith, length-append s.done (one ++ lines_bytes f rest))) in
+          omega (arith, s.here, length-append s.done (one ++ lines_bytes f rest), length-append one (lines_bytes f rest))
+
+      pub one_more : (after : List ℕ) (r : ℕ) → Laid (bytes_of (line_record f) v) out at after (Some r) → SoFar f all rest m start after r
+      one_more after r put =
+          let p = put fits_next in
+          let here : r ≡ at + length one = cc in
+          record {
+            done = s.done ++ one;
+            here = omega (arith, s.here, length-append s.done one);
+            held = p.1 ∙ rw (s.here, s.held) (overwritten-append m start inside s.done one);
+            total = append_assoc s.done one (lines_bytes f rest) ∙ parts;
+          }
+
+      pub one_none : (after : List ℕ) → Laid (bytes_of (line_record f) v) out at after None → ⊥
+      one_none after put = let p = (put fits_next).0 in cc
+
+    pub all_done : left ≡ [] → (Some at ≡ Some (start + length (lines_bytes f all))) × (out ≡ overwritten m start (lines_bytes f all))
     all_done is =
         let whole : s.done ≡ lines_bytes f all = sym (append-nil s.done) ∙ ap (λ vs. s.done ++ lines_bytes f vs) (sym is) ∙ s.total in
-        (s.here ∙ ap (λ x. start + length x) whole, s.held ∙ ap (λ x. overwritten m start x) whole)
+        (ap Some (s.here ∙ ap (λ x. start + length x) whole), s.held ∙ ap (λ x. overwritten m start x) whole)

@@ -6,7 +6,8 @@ use Rattle.records.specs.declared.image_lines.ImageLine.{ImageLine}
 use Rattle.records.specs.ImageLines.{numbered}
 use Rattle.images.specs.Images.{Rising}
 use Rattle.joins.specs.Joining.{line_of, newer, and_then, listed}
-use Rattle.joins.proofs.Merge.{Above, overlay, overlay_earlier, overlay_later, overlay_both}
+use Rattle.joins.specs.Merging.{overlay}
+use Rattle.joins.proofs.Merge.{Above, overlay_earlier, overlay_later, overlay_both}
 
 module _ {L : Type 0} where
   -- nothing stands below the first number

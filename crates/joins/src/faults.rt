@@ -17,23 +17,15 @@ pub enum JoinFault {
     Short(usize),
 }
 
-impl JoinFault {
-    pub fn refusal(self) -> Refusal
-        ensures { result ≡ join_refusal self }
-    {
-        match self {
-            JoinFault::Earlier(fault) => fault.refusal(),
-            JoinFault::Later(fault) => fault.refusal(),
-            JoinFault::Apart(point) => Refusal {
-                number: 7,
-                layer: Layer::Image,
-                place: point as usize,
-            },
-            JoinFault::Short(needed) => Refusal {
-                number: 4,
-                layer: Layer::Image,
-                place: needed,
-            },
+impl From<JoinFault> for Refusal {
+    ghost from_gives = { λ fault r. r ≡ join_refusal fault };
+
+    fn from(fault: JoinFault) -> Refusal {
+        match fault {
+            JoinFault::Earlier(fault) | JoinFault::Later(fault) => Refusal::from(fault),
+            // No From widens a u32 to a usize, so that it is a cast, of which the check shows that it loses nothing.
+            JoinFault::Apart(point) => Refusal::new(7, Layer::Image, point as usize),
+            JoinFault::Short(needed) => Refusal::new(4, Layer::Image, needed),
         }
     }
 }

@@ -1,17 +1,18 @@
 // Two images are joined into one newer image.
-ghost use Rattle.std.specs.Prelude.{◌≡◌, ◌+◌, ◌≤◌, true, length, Ok};
+ghost use Rattle.std.specs.Prelude.{◌≡◌, ◌+◌, ◌≤◌, length, IfSome, Ok};
 ghost use Rattle.records.specs.Framing.{bytes_of};
 ghost use Rattle.records.specs.ImageLines.{line_record};
-ghost use Rattle.images.specs.Images.{Content, writing, lines_bytes};
-ghost use Rattle.joins.specs.Joining.{join, joins, join_read, joined, within, lengthed, laid_in, JoinLaw, Grouping};
-ghost use Rattle.joins.specs.Merging.{line_in, next, picked, heads_join, joined_head, ReadAs, Sides, Put};
+ghost use Rattle.images.specs.Images.{writing, lines_bytes};
+ghost use Rattle.joins.specs.Joining.{joined, join_read, within, lengthed, laid_in, JoinLaw, Grouping};
+ghost use Rattle.joins.specs.Merging.{merged_left, overlay, heads_join, joined_head, Sides, WhereRead, WhereJoined, Laid};
 
 use crate::faults::JoinFault;
+use crate::merged::Merged;
 use images::reader::Image;
 use lines::traits::Coded;
+use records::frames::{Record, write_record};
 use records::heads::{Head, Mode};
-use records::image_lines::ImageLine;
-use records::images::{write_end, write_head, write_line};
+use records::images::{EndRecord, HeadRecord, LineRecord};
 
 // The length of a head record, of a line record but for its payload, and of an end record.
 const HEAD_LEN: usize = 16;
@@ -20,142 +21,104 @@ const LINE_FRAME: usize = 6;
 
 const END_LEN: usize = 6;
 
-// How many lines of each image were passed.
+// Writes the record of a value from `at` on and answers the offset behind it; none where there is no room for it.
+fn put<R: Record>(out: &mut [u8], at: usize, value: &R::Value) -> Option<usize>
+    requires { at ≤ length out.old }
+    ensures within { IfSome result (λ end. end ≤ length out.new) }
+    ensures put { Laid (bytes_of R.layout value.now) out.old at out.new result }
+{
+    let len = write_record::<R>(&mut out[at..], value)?;
+    Some(at + len)
+}
+
+// Two images that were read.
 #[derive(Clone, Copy)]
-struct Place {
-    earlier: usize,
-    later: usize,
+struct Pair<'a> {
+    earlier: Image<'a>,
+    later: Image<'a>,
 }
 
-const START: Place = Place {
-    earlier: 0,
-    later: 0,
-};
-
-// A line of the result, and how many lines of each image were passed with it.
-#[derive(Clone, Copy)]
-struct Next<C> {
-    line: ImageLine<C>,
-    place: Place,
-}
-
-fn passing<C: Coded>(line: ImageLine<C>, earlier: usize, later: usize) -> Next<C>
-    ensures { result ≡ next line earlier later }
-{
-    Next {
-        line,
-        place: Place { earlier, later },
+impl<'a> Pair<'a> {
+    // Whether the later image goes on from the earlier one.
+    fn heads_join(self) -> bool
+        ensures { result ≡ heads_join self.entry.earlier.head self.entry.later.head }
+    {
+        let earlier = self.earlier.head;
+        let later = self.later.head;
+        earlier.n == later.n && later.mode == Mode::Partial && later.from == earlier.point
     }
-}
 
-// Whether the later image goes on from the earlier one.
-fn heads_join(earlier: Head, later: Head) -> bool
-    ensures { result ≡ heads_join earlier later }
-{
-    let partial = match later.mode {
-        Mode::Full => false,
-        Mode::Partial => true,
-    };
-    earlier.n == later.n && partial && later.from == earlier.point
-}
-
-fn joined_head(earlier: Head, later: Head) -> Head
-    ensures { result ≡ joined_head earlier later }
-{
-    Head {
-        code: earlier.code,
-        mode: earlier.mode,
-        n: earlier.n,
-        from: earlier.from,
-        point: later.point,
-    }
-}
-
-// The line of the result behind that place: the one of the lower number; of two with the same number the later image's.
-fn next_line<C: Coded>(earlier: Image, later: Image, at: Place) -> Option<Next<C>>
-    ensures { result ≡ picked (line_in C.Coded.coding earlier.entry at.earlier) (line_in C.Coded.coding later.entry at.later) at.earlier at.later }
-{
-    let x = earlier.line::<C>(at.earlier);
-    let y = later.line::<C>(at.later);
-    match (x, y) {
-        (None, None) => None,
-        (Some(x), None) => Some(passing(x, at.earlier + 1, at.later)),
-        (None, Some(y)) => Some(passing(y, at.earlier, at.later + 1)),
-        (Some(x), Some(y)) => {
-            if x.number < y.number {
-                Some(passing(x, at.earlier + 1, at.later))
-            } else if x.number == y.number {
-                Some(passing(y, at.earlier + 1, at.later + 1))
-            } else {
-                Some(passing(y, at.earlier, at.later + 1))
-            }
+    // The head of the join.
+    fn head(self) -> Head
+        ensures { result ≡ joined_head self.entry.earlier.head self.entry.later.head }
+    {
+        Head {
+            point: self.later.head.point,
+            ..self.earlier.head
         }
     }
-}
 
-// How many lines the join of two images has.
-fn count_joined<C: Coded>(earlier: Image, later: Image) -> usize
-    ensures most { result ≤ earlier.entry.count + later.entry.count }
-    ensures lines { (a b : Content C) → ReadAs C.Coded.coding earlier.entry a → ReadAs C.Coded.coding later.entry b → joins a b ≡ true → result ≡ length (join a b).lines }
-{
-    let mut count = 0;
-    let mut place = START;
-    while let Some(next) = next_line::<C>(earlier, later, place) {
-        count += 1;
-        place = next.place;
+    // The lines of the join.
+    fn lines<C: Coded>(self) -> Merged<'a, C>
+        ensures few { length (merged_left C.Coded.coding result) ≤ self.entry.earlier.count + self.entry.later.count }
+        ensures lines { WhereRead C.Coded.coding self.entry (λ a b. merged_left C.Coded.coding result ≡ overlay a.lines b.lines) }
+    {
+        Merged {
+            earlier: self.earlier.lines::<C>(),
+            later: self.later.lines::<C>(),
+        }
     }
-    count
-}
 
-// Writes a line record from `at` on, if there is room for it, and answers the offset behind it.
-fn put_line<C: Coded>(out: &mut [u8], at: usize, line: ImageLine<C>) -> usize
-    requires { at ≤ length out.old }
-    ensures within { result ≤ length out.new }
-    ensures put { Put (bytes_of (line_record C.Coded.coding) line) out.old at out.new result }
-{
-    at + write_line(&mut out[at..], line.number, &line.line).unwrap_or(0)
-}
-
-// Writes the lines of the join from `start` on, as far as there is room, each behind the one before, and answers the offset behind them.
-fn write_lines<C: Coded>(out: &mut [u8], start: usize, earlier: Image, later: Image) -> usize
-    requires { start ≤ length out.old }
-    ensures within { result ≤ length out.new }
-    ensures put { (a b : Content C) → ReadAs C.Coded.coding earlier.entry a → ReadAs C.Coded.coding later.entry b → joins a b ≡ true → Put (lines_bytes C.Coded.coding (join a b).lines) out.old start out.new result }
-{
-    let mut at = start;
-    let mut place = START;
-    while let Some(next) = next_line::<C>(earlier, later, place) {
-        at = put_line(out, at, next.line);
-        place = next.place;
+    // How many lines the join has.
+    fn count<C: Coded>(self) -> usize
+        ensures few { result ≤ self.entry.earlier.count + self.entry.later.count }
+        ensures lines { WhereJoined C.Coded.coding self.entry (λ c. result ≡ length c.lines) }
+    {
+        self.lines::<C>().count()
     }
-    at
-}
 
-// Writes the join at the front of `out`, as far as there is room, and answers its length; `count` is how many lines it has.
-fn write_joined<C: Coded>(out: &mut [u8], earlier: Image, later: Image, count: u16) -> usize
-    ensures { (a b : Content C) → ReadAs C.Coded.coding earlier.entry a → ReadAs C.Coded.coding later.entry b → joins a b ≡ true → count ≡ length (join a b).lines → Put (writing C.Coded.coding (join a b)) out.old 0 out.new result }
-{
-    let head = joined_head(earlier.head, later.head);
-    let start = write_head(out, head).unwrap_or(0);
-    let at = write_lines::<C>(out, start, earlier, later);
-    at + write_end(&mut out[at..], count).unwrap_or(0)
-}
+    // Writes the lines of the join from `start` on, each behind the one before, and answers the offset behind them; none where
+    // there is no room for one.
+    fn write_lines<C: Coded>(self, out: &mut [u8], start: usize) -> Option<usize>
+        requires { start ≤ length out.old }
+        ensures within { IfSome result (λ end. end ≤ length out.new) }
+        ensures put { WhereJoined C.Coded.coding self.entry (λ c. Laid (lines_bytes C.Coded.coding c.lines) out.old start out.new result) }
+    {
+        let mut at = start;
+        for line in self.lines::<C>() {
+            at = put::<LineRecord<C>>(out, at, &line)?;
+        }
+        Some(at)
+    }
 
-// Joins two images that were read. A refusal writes nothing.
-fn join_images<C: Coded>(earlier: Image, later: Image, out: &mut [u8]) -> Result<usize, JoinFault>
-    requires { Sides C.Coded.coding earlier later }
-    ensures answer { (a b : Content C) → ReadAs C.Coded.coding earlier.entry a → ReadAs C.Coded.coding later.entry b → result ≡ lengthed (within (length out.old) (join_read C.Coded.coding (Ok a) (Ok b))) }
-    ensures after { (a b : Content C) → ReadAs C.Coded.coding earlier.entry a → ReadAs C.Coded.coding later.entry b → out.new ≡ laid_in out.old (within (length out.old) (join_read C.Coded.coding (Ok a) (Ok b))) }
-{
-    if !heads_join(earlier.head, later.head) {
-        return Err(JoinFault::Apart(later.head.point));
+    // Writes the join at the front of `out` and answers its length; none where there is no room for a record. `count` is how
+    // many lines it has.
+    fn write<C: Coded>(self, out: &mut [u8], count: u16) -> Option<usize>
+        ensures { WhereJoined C.Coded.coding self.entry (λ c. count ≡ length c.lines → Laid (writing C.Coded.coding c) out.old 0 out.new result) }
+    {
+        let start = put::<HeadRecord>(out, 0, &self.head())?;
+        let at = self.write_lines::<C>(out, start)?;
+        put::<EndRecord>(out, at, &count)
     }
-    let count = count_joined::<C>(earlier, later);
-    let size = HEAD_LEN + count * (LINE_FRAME + C::width()) + END_LEN;
-    if out.len() < size {
-        return Err(JoinFault::Short(size));
+
+    // Joins the two. A refusal writes nothing.
+    fn join<C: Coded>(self, out: &mut [u8]) -> Result<usize, JoinFault>
+        requires { Sides C.Coded.coding self }
+        ensures answer { WhereRead C.Coded.coding self.entry (λ a b. result ≡ lengthed (within (length out.old) (join_read C.Coded.coding (Ok a) (Ok b)))) }
+        ensures after { WhereRead C.Coded.coding self.entry (λ a b. out.new ≡ laid_in out.old (within (length out.old) (join_read C.Coded.coding (Ok a) (Ok b)))) }
+    {
+        if !self.heads_join() {
+            return Err(JoinFault::Apart(self.later.head.point));
+        }
+        let count = self.count::<C>();
+        let size = HEAD_LEN + count * (LINE_FRAME + C::width()) + END_LEN;
+        if out.len() < size {
+            return Err(JoinFault::Short(size));
+        }
+        // An image has few lines, so that the cast loses nothing; and now all records find room.
+        self.write::<C>(out, count as u16)
+            .ok_or(JoinFault::Short(size))
     }
-    Ok(write_joined::<C>(out, earlier, later, count as u16))
 }
 
 // Joins an earlier image of lines of the kind C and a later one that goes on from it, into one image at the front of `out`, and answers
@@ -166,13 +129,7 @@ pub fn join<C: Coded>(earlier: &[u8], later: &[u8], out: &mut [u8]) -> Result<us
     ensures lawful { JoinLaw C.Coded.coding earlier.now later.now result out.new }
     ensures grouping { Grouping C.Coded.coding }
 {
-    let old = match Image::read::<C>(earlier) {
-        Ok(image) => image,
-        Err(fault) => return Err(JoinFault::Earlier(fault)),
-    };
-    let new = match Image::read::<C>(later) {
-        Ok(image) => image,
-        Err(fault) => return Err(JoinFault::Later(fault)),
-    };
-    join_images::<C>(old, new, out)
+    let earlier = Image::read::<C>(earlier).map_err(JoinFault::Earlier)?;
+    let later = Image::read::<C>(later).map_err(JoinFault::Later)?;
+    Pair { earlier, later }.join::<C>(out)
 }

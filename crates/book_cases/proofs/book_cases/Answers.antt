@@ -11,7 +11,7 @@ use Rattle.book_cases.proofs.book_cases.Goals as goal
 
 pub recorded-requires : goal.recorded-requires
 unfolding le framed head_body
-recorded-requires c = (omega arith, rw c.head_of_empty.ensures)
+recorded-requires c = (omega arith, refl)
 
 pub recorded-requires-2 : goal.recorded-requires-2
 unfolding le framed

@@ -25,7 +25,7 @@ const HEAD_LEN: usize = 16;
 
 const PAYLOAD_AT: usize = 6;
 
-// An image that was read, by what its head says and how many lines it has.
+// An image that was read, by what its head says and how many lines it has, so that line k is found without another pass.
 #[derive(Clone, Copy)]
 pub struct Image<'a> {
     pub bytes: &'a [u8],
@@ -146,6 +146,7 @@ fn count_lines<C: Coded>(bytes: &[u8], head: Head, start: usize) -> Result<u16, 
     requires few { head.n ≤ 1024 }
     ensures { result ≡ counted (lines_from C.Coded.coding head head.n 0 0 start (drop start bytes.now)) }
 {
+    // How long a record is shows only once it is read, so that the pass moves on by that length.
     let mut offset = start;
     let mut low = 0;
     let mut count = 0;

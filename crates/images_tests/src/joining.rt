@@ -5,9 +5,10 @@ use joins::faults::JoinFault;
 use joins::join::join;
 use kinds::stocks::StockLine;
 use lines::traits::Coded;
+use records::frames::{Record, write_record};
 use records::heads::{Head, Mode};
 use records::image_lines::ImageLine;
-use records::images::{write_end, write_head, write_line};
+use records::images::{EndRecord, HeadRecord, LineRecord};
 use std::alloc::{AllocError, Global};
 use std::test::Fail;
 
@@ -35,32 +36,32 @@ impl Stored {
     }
 }
 
-// Writes an image, one record behind the other, and answers how many bytes it takes. It need not be lawful.
-fn write_image<C: Coded>(out: &mut [u8], head: Head, lines: &[ImageLine<C>]) -> usize {
-    let mut at = write_head(out, head).unwrap_or(0);
+// Writes a record from `at` on and answers the offset behind it.
+fn put<R: Record>(out: &mut [u8], at: usize, value: &R::Value) -> Option<usize> {
+    let len = write_record::<R>(out.get_mut(at..)?, value)?;
+    at.checked_add(len)
+}
+
+// Writes an image, one record behind the other, and answers how many bytes it takes, if there is room. It need not be lawful.
+fn write_image<C: Coded>(out: &mut [u8], head: Head, lines: &[ImageLine<C>]) -> Option<usize> {
+    let mut at = put::<HeadRecord>(out, 0, &head)?;
     for line in lines {
-        let rest = at.min(out.len());
-        at = at.saturating_add(write_line(&mut out[rest..], line.number, &line.line).unwrap_or(0));
+        at = put::<LineRecord<C>>(out, at, line)?;
     }
-    let rest = at.min(out.len());
-    let count = u16::try_from(lines.len()).unwrap_or(0);
-    at.saturating_add(write_end(&mut out[rest..], count).unwrap_or(0))
+    put::<EndRecord>(out, at, &u16::try_from(lines.len()).ok()?)
 }
 
 fn made<C: Coded>(mode: Mode, n: u16, from: u32, point: u32, lines: &[ImageLine<C>]) -> Stored {
     let code = C::type_code();
     let mut memory = [0u8; SIZE];
-    let len = write_image(
-        &mut memory,
-        Head {
-            code,
-            mode,
-            n,
-            from,
-            point,
-        },
-        lines,
-    );
+    let head = Head {
+        code,
+        mode,
+        n,
+        from,
+        point,
+    };
+    let len = write_image(&mut memory, head, lines).unwrap_or(0);
     Stored { memory, len }
 }
 

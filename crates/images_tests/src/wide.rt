@@ -4,7 +4,7 @@ ghost use Rattle.std.proofs.Common.{arith};
 ghost use Rattle.images_tests.specs.WideBytes.{length-payload, bytes-payload, decoded-payload};
 ghost use Rattle.lines.proofs.Payloads.{read_back, read_only};
 
-use lines::numbers::{read_u16, read_u64};
+use lines::numbers::{read_two, write_two};
 use lines::traits::Coded;
 
 // Four numbers in 26 bytes. They keep their rule where first <= second <= third <= CEILING and fourth <= 9,999.
@@ -52,21 +52,16 @@ impl Coded for WideLine {
         if out.len() < 26 {
             return None;
         }
-        out[0..8].copy_from_slice(&self.first.to_le_bytes());
-        out[8..16].copy_from_slice(&self.second.to_le_bytes());
-        out[16..24].copy_from_slice(&self.third.to_le_bytes());
-        out[24..26].copy_from_slice(&self.fourth.to_le_bytes());
+        // There is room for both parts.
+        let _ = write_two(self.first, self.second, out);
+        let _ = write_two(self.third, self.fourth, &mut out[16..]);
         Some(26)
     }
 
     fn read_payload(bytes: &[u8]) -> Option<WideLine> {
-        if bytes.len() != 26 {
-            return None;
-        }
-        let first = read_u64(&bytes[0..8])?;
-        let second = read_u64(&bytes[8..16])?;
-        let third = read_u64(&bytes[16..24])?;
-        let fourth = read_u16(&bytes[24..26])?;
+        let (front, back) = bytes.split_at_checked(16)?;
+        let (first, second) = read_two(front)?;
+        let (third, fourth) = read_two(back)?;
         WideLine {
             first,
             second,

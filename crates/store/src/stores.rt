@@ -22,9 +22,9 @@ pub struct Table<'a, R: Rules> {
     given: usize,
 }
 
-// The lent memory: what the calls work on, and what lies past the lines, which no call is handed.
+// The lent memory: what the calls work on, and what lies past the lines, which no call is handed. The table is open to callers, since its calls hold of any.
 #[derive(Drop)]
 pub struct Store<'a, R: Rules> {
-    table: Table<'a, R>,
+    pub table: Table<'a, R>,
     spare: &'a mut [Cell<R::Line, R>],
 }

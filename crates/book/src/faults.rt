@@ -19,21 +19,17 @@ pub enum RebuildFault {
     Refused(usize, LineFault),
 }
 
-impl RebuildFault {
-    pub fn refusal(self) -> Refusal
-        ensures { result ≡ rebuild_refusal self }
-    {
-        let (number, layer, place) = match self {
-            RebuildFault::Image(fault) => return fault.refusal(),
-            RebuildFault::Partial(point) => (7, Layer::Image, point as usize),
-            RebuildFault::Short(lines) => (4, Layer::Image, lines),
-            RebuildFault::NoMark(point) => (7, Layer::Image, point as usize),
-            RebuildFault::Refused(entry, _) => (8, Layer::Book, entry),
-        };
-        Refusal {
-            number,
-            layer,
-            place,
+impl From<RebuildFault> for Refusal {
+    ghost from_gives = { λ fault r. r ≡ rebuild_refusal fault };
+
+    // No From widens a u32 to a usize, so that a point is cast, of which the check shows that it loses nothing.
+    fn from(fault: RebuildFault) -> Refusal {
+        match fault {
+            RebuildFault::Image(unlawful) => unlawful.into(),
+            RebuildFault::Partial(point) => Refusal::new(7, Layer::Image, point as usize),
+            RebuildFault::Short(lines) => Refusal::new(4, Layer::Image, lines),
+            RebuildFault::NoMark(point) => Refusal::new(7, Layer::Image, point as usize),
+            RebuildFault::Refused(entry, _) => Refusal::new(8, Layer::Book, entry),
         }
     }
 }

@@ -1,17 +1,17 @@
 // Worked cases of the image and of the book, as one proved table.
 #![tactic(auto)]
 
-ghost use Rattle.std.specs.Prelude.{◌≡◌};
+ghost use Rattle.std.specs.Prelude.{◌≡◌, length};
 ghost use Rattle.kinds.specs.Accounts.{account};
 ghost use Rattle.book_cases.specs.Cases.{Worked, empty_book};
 ghost use Rattle.images.specs.Images.{head_of};
 ghost use Rattle.records.specs.Framing.{bytes_of};
-ghost use Rattle.records.specs.Heads.{head_record};
-ghost use Rattle.records.specs.Numbers.{end_record};
 
+use kinds::accounts::Account;
 use lines::traits::Coded;
+use records::frames::{Record, write_record};
 use records::heads::{Head, Mode};
-use records::images::{write_end, write_head};
+use records::images::{EndRecord, HeadRecord};
 
 // The image of an account book with no lines, at its first point; `Worked` in specs/Cases.antt has what its bytes are.
 pub struct BookCases {
@@ -23,33 +23,30 @@ pub fn book_cases() -> BookCases
     ensures { Worked result }
 {
     BookCases {
-        image_head: head_of_empty(),
-        image_end: end_of_empty(),
+        image_head: recorded::<HeadRecord, 16>(&head_of_empty()),
+        image_end: recorded::<EndRecord, 6>(&0),
     }
 }
 
-// The records of the full image of an account book with no lines, at its first point: the head and the end.
-fn head_of_empty() -> [u8; 16]
-    ensures { result ≡ bytes_of head_record (head_of account empty_book) }
+// What the full image of an account book with no lines begins with, at its first point.
+fn head_of_empty() -> Head
+    ensures { result ≡ head_of account empty_book }
 {
-    let mut out = [0; 16];
-    let _ = write_head(
-        &mut out,
-        Head {
-            code: <kinds::accounts::Account as Coded>::type_code(),
-            mode: Mode::Full,
-            n: 0,
-            from: 0,
-            point: 1,
-        },
-    );
-    out
+    Head {
+        code: Account::type_code(),
+        mode: Mode::Full,
+        n: 0,
+        from: 0,
+        point: 1,
+    }
 }
 
-fn end_of_empty() -> [u8; 6]
-    ensures { result ≡ bytes_of end_record 0 }
+// The record of a value that has N bytes. It stands here and not with the records, where it would have to answer for every N.
+fn recorded<R: Record, const N: usize>(value: &R::Value) -> [u8; N]
+    requires { length (bytes_of R.layout value.now) ≡ N }
+    ensures { result ≡ bytes_of R.layout value.now }
 {
-    let mut out = [0; 6];
-    let _ = write_end(&mut out, 0);
+    let mut out = [0; N];
+    let _ = write_record::<R>(&mut out, value);
     out
 }

@@ -2,6 +2,7 @@
 --
 --   is_done k o     whether the cell is done with the point: its bit is read against the sense, so that turning the sense over makes every cell not done
 --   with_live o x   the cell with x as its live line
+--   with_done k o   the cell when it is done with the point
 --   finishes b      whether the first change of a command that began in b makes the cell done
 --   saves b         whether it saves the live line
 --   left k b o      whether a command that began in Called leaves a cell that is not done
@@ -14,8 +15,8 @@ use Rattle.std.specs.Option.{unwrap_or}
 use Rattle.keepers.specs.declared.clocks.Clock.{Clock}
 use Rattle.keepers.specs.declared.stages.Stage.{Stage}
 use Rattle.keepers.specs.declared.stages.Stage.TheVariants.{Rest, Called, Pointed, Taking, Closing}
-use Rattle.keepers.specs.Bits.{no_bits, bit, with_bit}
 use Rattle.keepers.specs.Methods.{Method}
+use Rattle.keepers.specs.Pairs.{both, part, with_part}
 use Rattle.keepers.specs.Stages.{same}
 use Rattle.calc.specs.declared.backed.Backed.{Backed}
 
@@ -27,6 +28,9 @@ is_done k o = differ o.done k.sense
 
 abbrev pub with_live : {L : Type 0} → Backed L → L → Backed L
 with_live o x = record { live = x; saved = o.saved; done = o.done; named = o.named }
+
+abbrev pub with_done : {L : Type 0} → Clock → Backed L → Backed L
+with_done k o = record { live = o.live; saved = o.saved; done = not k.sense; named = o.named }
 
 abbrev pub finishes : Stage → Bool
 finishes b = same b Pointed || same b Taking
@@ -51,7 +55,7 @@ calc L = record {
   limit = 1024;
   quiet = false;
   sweeps = false;
-  fresh = λ x. record { live = x; saved = None; done = false; named = no_bits };
+  fresh = λ x. record { live = x; saved = None; done = false; named = both false };
   -- a cell that is done has its point line safe; another saves it before the live line changes
   first = λ k b o x. record {
     live = x;
@@ -60,21 +64,21 @@ calc L = record {
     named = o.named;
   };
   later = λ k o x. with_live o x;
-  commit = λ k b o. record { live = o.live; saved = (let_go k b o).saved; done = (let_go k b o).done; named = with_bit o.named k.odd true };
+  commit = λ k b o. record { live = o.live; saved = (let_go k b o).saved; done = (let_go k b o).done; named = with_part o.named k.odd true };
   abandon = λ k b o before. with_live (let_go k b o) before;
-  gives = λ k o. record { line = cond (is_done k o) (unwrap_or o.saved o.live) o.live; named = bit o.named (not k.odd) };
+  gives = λ k o. record { line = cond (is_done k o) (unwrap_or o.saved o.live) o.live; named = part o.named (not k.odd) };
   given = λ k o. record {
     live = o.live;
     saved = cond (is_done k o) None o.saved;
     done = not k.sense;
-    named = with_bit o.named (not k.odd) false;
+    named = with_part o.named (not k.odd) false;
   };
   pointed = λ o. o;
   live = λ o. o.live;
-  named = λ k held o. bit o.named k.odd;
+  named = λ k held o. part o.named k.odd;
   due = λ k held before o. record {
     line = cond (is_done k o) (unwrap_or o.saved o.live) (cond held before o.live);
-    named = bit o.named (not k.odd);
+    named = part o.named (not k.odd);
   };
 }
 
@@ -95,5 +99,5 @@ fits Closing due h done saved bit = not due && (done && (not saved && not bit))
 
 abbrev pub Sound : {L : Type 0} → Clock → Bool → Option Stage → L → Backed L → Type 0
 Sound k due h before o =
-    (fits k.stage due h (is_done k o) (is_some o.saved) (bit o.named (not k.odd)) ≡ true)
+    (fits k.stage due h (is_done k o) (is_some o.saved) (part o.named (not k.odd)) ≡ true)
     × (cond (is_done k o) before (unwrap_or o.saved before) ≡ before)

@@ -9,13 +9,13 @@ pub calc-lawful : (L : Type 0) → Lawful (calc L) Sound
 calc-lawful L = record {
   few = omega arith;
   fresh_is = λ x. record { live_is = refl; named_is = refl; due_is = λ d. refl; sound_is = (refl, refl) };
-  first_is = λ k due b before o x a s. record { live_is = refl; named_is = refl; due_is = λ d. grind (arith, nat_tests); sound_is = (grind (arith, nat_tests), grind (arith, nat_tests)) };
-  later_is = λ k due b before o x a s. record { live_is = refl; named_is = refl; due_is = λ d. grind (arith, nat_tests); sound_is = (grind (arith, nat_tests), grind (arith, nat_tests)) };
-  commit_is = λ k due b before o a s. record { live_is = refl; named_is = grind (arith, nat_tests); due_is = λ d. grind (arith, nat_tests); sound_is = (grind (arith, nat_tests), grind (arith, nat_tests)) };
-  abandon_is = λ k due b before o a s. record { live_is = refl; named_is = grind (arith, nat_tests); due_is = λ d. grind (arith, nat_tests); sound_is = (grind (arith, nat_tests), grind (arith, nat_tests)) };
+  first_is = λ k due b before o x a s. grind (arith, nat_tests);
+  later_is = λ k due b before o x a s. grind (arith, nat_tests);
+  commit_is = λ k due b before o a s. grind (arith, nat_tests);
+  abandon_is = λ k due b before o a s. grind (arith, nat_tests);
   gives_is = λ k h before o g s. grind (arith, nat_tests);
-  given_is = λ k h before o g s. record { live_is = refl; named_is = grind (arith, nat_tests); due_is = λ d. grind (arith, nat_tests); sound_is = (grind (arith, nat_tests), grind (arith, nat_tests)) };
-  turns_is = λ k due h before o c d b n s. record { live_is = refl; named_is = grind (arith, nat_tests); due_is = λ d. grind (arith, nat_tests); sound_is = (grind (arith, nat_tests), grind (arith, nat_tests)) };
-  points_is = λ k h before o g b n s. record { live_is = refl; named_is = grind (arith, nat_tests); due_is = λ d. grind (arith, nat_tests); sound_is = (grind (arith, nat_tests), grind (arith, nat_tests)) };
+  given_is = λ k h before o g s. grind (arith, nat_tests);
+  turns_is = λ k due h before o c d b n s. grind (arith, nat_tests);
+  points_is = λ k h before o g b n s. grind (arith, nat_tests);
   still = λ e o. refl;
 }

@@ -1,12 +1,12 @@
 // A cell of CALC, and its rules.
 ghost use Rattle.std.specs.Prelude.{◌≡◌};
-ghost use Rattle.calc.specs.Calc.{calc, Sound, is_done, with_live, left, let_go};
+ghost use Rattle.calc.specs.Calc.{calc, Sound, is_done, with_live, with_done, left, let_go};
 ghost use Rattle.calc.specs.Laws.{calc-lawful};
 
 use keepers::clocks::Clock;
 use keepers::given::Given;
-use keepers::named_bits::NamedBits;
-use keepers::rules::Rules;
+use keepers::pairs::Two;
+use keepers::rules::{MOST_LINES, Rules};
 use keepers::stages::Stage;
 use lines::traits::Line;
 use store::stores::Store;
@@ -14,15 +14,13 @@ use store::stores::Store;
 // A keeper by this method.
 pub type Calc<'a, L> = Store<'a, Backed<L>>;
 
-const MOST_LINES: usize = 1024;
-
 // The line with every change made; the point line, where that differs from it; a bit that tells, read against the book's sense, whether the cell is done with the point; and the named bits.
 #[derive(Clone, Copy)]
 pub struct Backed<L> {
     pub live: L,
     pub saved: Option<L>,
     pub done: bool,
-    pub named: NamedBits,
+    pub named: Two<bool>,
 }
 
 impl<L: Line> Backed<L> {
@@ -36,16 +34,23 @@ impl<L: Line> Backed<L> {
     fn with_live(self, line: L) -> Backed<L>
         ensures { result ≡ with_live self line }
     {
-        let mut cell = self;
-        cell.live = line;
-        cell
+        Backed { live: line, ..self }
+    }
+
+    fn with_done(self, clock: Clock) -> Backed<L>
+        ensures { result ≡ with_done clock self }
+    {
+        Backed {
+            done: !clock.sense,
+            ..self
+        }
     }
 
     // Whether a command that began in Called leaves a cell that is not done.
     fn is_left(self, clock: Clock, began: Stage) -> bool
         ensures { result ≡ left clock began self }
     {
-        began.is(Stage::Called) && !self.is_done(clock)
+        began == Stage::Called && !self.is_done(clock)
     }
 
     // The cell as a command leaves it that began in Called, by commit or abandon: nothing stays saved if that was before the point,
@@ -53,16 +58,17 @@ impl<L: Line> Backed<L> {
     fn let_go(self, clock: Clock, began: Stage) -> Backed<L>
         ensures { result ≡ let_go clock began self }
     {
-        let mut cell = self;
-        if self.is_left(clock, began) {
-            if clock.stage.is(Stage::Called) {
-                cell.saved = None;
-            }
-            if clock.stage.is(Stage::Pointed) {
-                cell.done = !clock.sense;
-            }
+        if !self.is_left(clock, began) {
+            return self;
         }
-        cell
+        match clock.stage {
+            Stage::Called => Backed {
+                saved: None,
+                ..self
+            },
+            Stage::Pointed => self.with_done(clock),
+            _ => self,
+        }
     }
 }
 
@@ -92,22 +98,24 @@ impl<L: Line> Rules for Backed<L> {
             live: line,
             saved: None,
             done: false,
-            named: NamedBits::new(),
+            named: Two::both(false),
         }
     }
 
     fn first(self, clock: Clock, began: Stage, line: L) -> Backed<L> {
-        let mut cell = self;
-        if !self.is_done(clock) {
-            let late = began.is(Stage::Pointed) || began.is(Stage::Taking);
-            if began.is(Stage::Called) || late {
-                cell.saved = Some(self.live);
-            }
-            if late {
-                cell.done = !clock.sense;
-            }
+        let changed = self.with_live(line);
+        if self.is_done(clock) {
+            return changed;
         }
-        cell.with_live(line)
+        let backed = Backed {
+            saved: Some(self.live),
+            ..changed
+        };
+        match began {
+            Stage::Called => backed,
+            Stage::Pointed | Stage::Taking => backed.with_done(clock),
+            _ => changed,
+        }
     }
 
     fn later(self, _clock: Clock, line: L) -> Backed<L> {
@@ -115,9 +123,10 @@ impl<L: Line> Rules for Backed<L> {
     }
 
     fn commit(self, clock: Clock, began: Stage) -> Backed<L> {
-        let mut cell = self.let_go(clock, began);
-        cell.named = self.named.with(clock.odd, true);
-        cell
+        Backed {
+            named: self.named.with(clock.odd, true),
+            ..self.let_go(clock, began)
+        }
     }
 
     fn abandon(self, clock: Clock, began: Stage, before: L) -> Backed<L> {
@@ -125,10 +134,9 @@ impl<L: Line> Rules for Backed<L> {
     }
 
     fn gives(self, clock: Clock) -> Given<L> {
-        let line = if self.is_done(clock) {
-            self.saved.unwrap_or(self.live)
-        } else {
-            self.live
+        let line = match self.saved {
+            Some(point) if self.is_done(clock) => point,
+            _ => self.live,
         };
         Given {
             line,
@@ -137,16 +145,10 @@ impl<L: Line> Rules for Backed<L> {
     }
 
     fn given(self, clock: Clock) -> Backed<L> {
-        let saved = if self.is_done(clock) {
-            None
-        } else {
-            self.saved
-        };
         Backed {
-            live: self.live,
-            saved,
-            done: !clock.sense,
+            saved: self.saved.filter(|_line| !self.is_done(clock)),
             named: self.named.with(!clock.odd, false),
+            ..self.with_done(clock)
         }
     }
 

@@ -1,12 +1,11 @@
 // Worked cases, as one proved table.
 #![tactic(auto)]
 
-ghost use Rattle.std.specs.Prelude.{◌≡◌, [], ◌∷◌};
+ghost use Rattle.std.specs.Prelude.{◌≡◌, [], ◌∷◌, length};
 ghost use Rattle.kinds.specs.Accounts.{payload};
 ghost use Rattle.cases.specs.Cases.{Worked};
-ghost use Rattle.records.specs.Commands.{command_record, command_of};
+ghost use Rattle.records.specs.Commands.{command_of};
 ghost use Rattle.records.specs.Framing.{bytes_of};
-ghost use Rattle.records.specs.Numbers.{mark_record};
 ghost use Rattle.lines.specs.Numbered.{change};
 
 use kinds::accounts::Account;
@@ -15,7 +14,8 @@ use lines::changes::Change;
 use lines::faults::LineFault;
 use lines::traits::{Coded, Line};
 use records::commands::Command;
-use records::entries::{write_command, write_mark};
+use records::entries::{CommandRecord, MarkRecord};
+use records::frames::{Record, write_record};
 
 // What the calls answer in each case; `Worked` in specs/Cases.antt has the cases and what each answer is.
 pub struct WorkedCases {
@@ -60,8 +60,8 @@ pub fn worked_cases() -> WorkedCases
             balance: -100,
             limit: 100,
         }),
-        command: record_of(0, 1, 500),
-        mark: mark_of(1),
+        command: recorded::<CommandRecord, 11>(&command_of_one(0, 1, 500)),
+        mark: recorded::<MarkRecord, 8>(&1),
     }
 }
 
@@ -84,21 +84,20 @@ fn payload_of(account: Account) -> [u8; 12]
     out
 }
 
-// The record of a command with one change.
-fn record_of(line: u16, kind: u8, amount: u32) -> [u8; 11]
-    ensures { result ≡ bytes_of command_record (command_of (record { line = line; kind = kind; amount = amount } ∷ [])) }
+fn command_of_one(line: u16, kind: u8, amount: u32) -> Command
+    ensures { result ≡ command_of (record { line = line; kind = kind; amount = amount } ∷ []) }
 {
     let mut command = Command::new();
     let _ = command.push(Change { line, kind, amount });
-    let mut out = [0; 11];
-    let _ = write_command(&mut out, &command);
-    out
+    command
 }
 
-fn mark_of(point: u32) -> [u8; 8]
-    ensures { result ≡ bytes_of mark_record point }
+// The record of a value that has N bytes. It stands here and not with the records, where it would have to answer for every N.
+fn recorded<R: Record, const N: usize>(value: &R::Value) -> [u8; N]
+    requires { length (bytes_of R.layout value.now) ≡ N }
+    ensures { result ≡ bytes_of R.layout value.now }
 {
-    let mut out = [0; 8];
-    let _ = write_mark(&mut out, point);
+    let mut out = [0; N];
+    let _ = write_record::<R>(&mut out, value);
     out
 }

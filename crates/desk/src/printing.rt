@@ -1,76 +1,94 @@
-// How lines, log entries, bytes and refusals are printed.
-use crate::played::Played;
-use crate::script::Entry;
+// How answers are printed.
 use lines::changes::Change;
-use lines::faults::{Layer, Refusal};
+use lines::faults::Refusal;
 use logs::entries::Entry as LogEntry;
+use records::heads::Mode;
+use std::fmt;
 
-// A refusal, and what is to stand behind it.
-pub(crate) fn print_refusal(
-    rt: &HostRuntime,
-    entry: &Entry,
-    refusal: Refusal,
-    behind: &str,
-) -> anyhow::Result<()> {
-    let Refusal {
-        number,
-        layer,
-        place,
-    } = refusal;
-    let layer = layer_name(layer);
-    println!(rt; "{}: refused {number} {layer} {place}{behind}", entry.echo)?;
-    Ok(())
+// Prints what a line of a script is answered, behind its words.
+#[derive(Clone, Copy)]
+pub(crate) struct Reporter<'a> {
+    pub(crate) rt: &'a HostRuntime,
+    pub(crate) echo: &'a str,
 }
 
-pub(crate) fn layer_name(layer: Layer) -> &'static str {
-    match layer {
-        Layer::Book => "book",
-        Layer::Keeper => "keeper",
-        Layer::Line => "line",
-        Layer::Image => "image",
-        Layer::Log => "log",
-    }
-}
-
-// A line's number, its two numbers and its payload.
-pub(crate) fn print_line<L: Played>(
-    rt: &HostRuntime,
-    number: usize,
-    line: &L,
-) -> anyhow::Result<()> {
-    let (first, second) = line.numbers();
-    print!(rt; "  {number} {first} {second} ")?;
-    let mut payload = [0u8; 26];
-    if let Some(width) = line.write_payload(&mut payload) {
-        print_front(rt, &payload, width)?;
-    }
-    println!(rt; "")?;
-    Ok(())
-}
-
-// So many bytes, or all where there are fewer.
-pub(crate) fn print_front(rt: &HostRuntime, bytes: &[u8], len: usize) -> anyhow::Result<()> {
-    for b in bytes.iter().take(len) {
-        print!(rt; "{b:02x}")?;
-    }
-    Ok(())
-}
-
-pub(crate) fn print_log_entry(
-    rt: &HostRuntime,
-    number: usize,
-    entry: LogEntry,
-) -> anyhow::Result<()> {
-    match entry {
-        LogEntry::Mark(point) => println!(rt; "  {number} mark {point}")?,
-        LogEntry::Command(command) => {
-            print!(rt; "  {number} command")?;
-            for change in command.as_slice() {
-                let Change { line, kind, amount } = *change;
-                print!(rt; " {line} {kind} {amount}")?;
-            }
-            println!(rt; "")?;
+impl<'a> Reporter<'a> {
+    pub(crate) fn new(rt: &'a HostRuntime, echo: &'a String) -> Reporter<'a> {
+        Reporter {
+            rt,
+            echo: echo.as_str(),
         }
     }
-    Ok(())
+
+    pub(crate) fn answer<T: fmt::Display + Drop>(self, answer: T) -> anyhow::Result<()> {
+        println!(self.rt; "{}: {answer}", self.echo)?;
+        Ok(())
+    }
+
+    pub(crate) fn refused<F: Into<Refusal>>(self, fault: F) -> anyhow::Result<()> {
+        self.answer(Refused(fault.into()))
+    }
+
+    // One of the lines below an answer.
+    pub(crate) fn below<T: fmt::Display + Drop>(self, said: T) -> anyhow::Result<()> {
+        println!(self.rt; "  {said}")?;
+        Ok(())
+    }
+}
+
+#[derive(Clone, Copy)]
+pub(crate) struct Refused(pub(crate) Refusal);
+
+impl fmt::Display for Refused {
+    fn fmt<W: fmt::Write>(&self, f: &mut fmt::Formatter<W>) -> fmt::Result {
+        write!(f, "refused {}", self.0)
+    }
+}
+
+// Bytes in lower-case hexadecimal.
+#[derive(Clone, Copy)]
+pub(crate) struct Hex<'a>(pub(crate) &'a [u8]);
+
+impl fmt::Display for Hex<'_> {
+    fn fmt<W: fmt::Write>(&self, f: &mut fmt::Formatter<W>) -> fmt::Result {
+        for b in self.0 {
+            write!(f, "{b:02x}")?;
+        }
+        Ok(())
+    }
+}
+
+// A value of another crate in a script's words.
+#[derive(Clone, Copy)]
+pub(crate) struct InWords<T>(pub(crate) T);
+
+impl fmt::Display for InWords<Change> {
+    fn fmt<W: fmt::Write>(&self, f: &mut fmt::Formatter<W>) -> fmt::Result {
+        let Change { line, kind, amount } = self.0;
+        write!(f, "{line} {kind} {amount}")
+    }
+}
+
+impl fmt::Display for InWords<LogEntry> {
+    fn fmt<W: fmt::Write>(&self, f: &mut fmt::Formatter<W>) -> fmt::Result {
+        match self.0 {
+            LogEntry::Mark(point) => write!(f, "mark {point}"),
+            LogEntry::Command(command) => {
+                write!(f, "command")?;
+                for change in command.as_slice() {
+                    write!(f, " {}", InWords(*change))?;
+                }
+                Ok(())
+            }
+        }
+    }
+}
+
+impl fmt::Display for InWords<Mode> {
+    fn fmt<W: fmt::Write>(&self, f: &mut fmt::Formatter<W>) -> fmt::Result {
+        f.write_str(match self.0 {
+            Mode::Full => "full",
+            Mode::Partial => "partial",
+        })
+    }
 }

@@ -1,83 +1,70 @@
 // Reports on bytes that a script gives: as a log, as an image, and two images joined.
 use crate::played::Played;
-use crate::printing::{print_front, print_log_entry, print_refusal};
-use crate::script::Entry;
+use crate::printing::{Hex, InWords, Refused, Reporter};
 use images::reader::Image;
 use joins::faults::JoinFault;
 use joins::join::join;
 use logs::byte_log::ByteLog;
 use logs::traits::Log;
-use records::heads::{Head, Mode};
+use records::heads::Head;
 
-// How many entries the bytes hold as a log, and each of them; or why they are none.
-pub(crate) fn report_log(
-    rt: &HostRuntime,
-    entry: &Entry,
-    bytes: &[u8],
-    used: usize,
-) -> anyhow::Result<()> {
-    let count = match ByteLog::check(bytes, used) {
-        Ok(count) => count,
-        Err(fault) => return print_refusal(rt, entry, fault.refusal(), ""),
-    };
-    println!(rt; "{}: {count}", entry.echo)?;
-    let mut memory: Vec<u8> = bytes.iter().copied().collect(rt.alloc())?;
-    let log = ByteLog::open(memory.as_mut_slice(), used);
-    for i in 0..count {
-        if let Some(found) = log.get(i) {
-            print_log_entry(rt, i, found)?;
+impl<'a> Reporter<'a> {
+    // How many entries the bytes hold as a log, and each of them; or why they are none.
+    pub(crate) fn report_log(self, bytes: &[u8], used: usize) -> anyhow::Result<()> {
+        let count = match ByteLog::check(bytes, used) {
+            Ok(count) => count,
+            Err(fault) => return self.refused(fault),
+        };
+        self.answer(count)?;
+        let mut memory: Vec<u8> = bytes.iter().copied().collect(self.rt.alloc())?;
+        let log = ByteLog::open(memory.as_mut_slice(), used);
+        for (i, entry) in (0..count).map_while(|i| log.get(i)).enumerate() {
+            self.below(format_args!("{i} {}", InWords(entry)))?;
         }
+        Ok(())
     }
-    Ok(())
-}
 
-// What an image of lines of the kind L says: its head, and each of its lines; or why the bytes are none.
-pub(crate) fn report_image<L: Played>(
-    rt: &HostRuntime,
-    entry: &Entry,
-    bytes: &[u8],
-) -> anyhow::Result<()> {
-    let image = match Image::read::<L>(bytes) {
-        Ok(image) => image,
-        Err(fault) => return print_refusal(rt, entry, fault.refusal(), ""),
-    };
-    let mode = match image.head.mode {
-        Mode::Full => "full",
-        Mode::Partial => "partial",
-    };
-    let count = image.count;
-    let Head { n, from, point, .. } = image.head;
-    println!(rt;
-        "{}: {mode}, {count} lines of {n}, from {from}, point {point}",
-        entry.echo
-    )?;
-    for k in 0..usize::from(count) {
-        if let Some(found) = image.line::<L>(k) {
-            let number = found.number;
-            let (first, second) = found.line.numbers();
-            println!(rt; "  {number} {first} {second}")?;
+    // What an image of lines of the kind L says: its head, and each of its lines; or why the bytes are none.
+    pub(crate) fn report_image<L: Played>(self, bytes: &[u8]) -> anyhow::Result<()> {
+        let image = match Image::read::<L>(bytes) {
+            Ok(image) => image,
+            Err(fault) => return self.refused(fault),
+        };
+        let count = image.count;
+        let Head {
+            mode,
+            n,
+            from,
+            point,
+            ..
+        } = image.head;
+        let mode = InWords(mode);
+        self.answer(format_args!("{mode}, {count} lines of {n}, from {from}, point {point}"))?;
+        for found in image.lines::<L>() {
+            self.below(format_args!("{} {}", found.number, found.line.numbers()))?;
         }
+        Ok(())
     }
-    Ok(())
-}
 
-// The join of two images of lines of the kind L, made in so many bytes of memory; or why there is none.
-pub(crate) fn report_join<L: Played>(
-    rt: &HostRuntime,
-    entry: &Entry,
-    earlier: &[u8],
-    later: &[u8],
-    room: usize,
-) -> anyhow::Result<()> {
-    let mut memory = vec![in rt.alloc(); 0u8; room]?;
-    match join::<L>(earlier, later, memory.as_mut_slice()) {
-        Ok(len) => {
-            print!(rt; "{}: {len} ", entry.echo)?;
-            print_front(rt, memory.as_slice(), len)?;
-            println!(rt; "")?;
-            Ok(())
+    // The join of two images of lines of the kind L, made in so many bytes of memory; or why there is none.
+    pub(crate) fn report_join<L: Played>(
+        self,
+        earlier: &[u8],
+        later: &[u8],
+        room: usize,
+    ) -> anyhow::Result<()> {
+        let mut memory = vec![in self.rt.alloc(); 0u8; room]?;
+        match join::<L>(earlier, later, memory.as_mut_slice()) {
+            Ok(len) => {
+                memory.truncate(len);
+                self.answer(format_args!("{len} {}", Hex(memory.as_slice())))
+            }
+            Err(fault) => self.answer(format_args!(
+                "{}{}",
+                Refused(fault.into()),
+                which_image(fault)
+            )),
         }
-        Err(fault) => print_refusal(rt, entry, fault.refusal(), which_image(fault)),
     }
 }
 

@@ -1,14 +1,18 @@
 // A short scene on a keeper alone: two seats, an abandoned change, a point, and lines given out while a change goes on.
-use crate::played::Played;
-use crate::printing::layer_name;
-use crate::script::Entry;
+use crate::played::{Numbers, Played};
+use crate::printing::{InWords, Refused, Reporter};
+use crate::script::Method;
+use calc::backed::Backed;
 use keepers::faults::KeeperFault;
 use keepers::given::Given;
+use keepers::rules::Rules;
 use keepers::traits::Keeper;
 use kinds::accounts::Account;
 use lines::changes::Change;
-use lines::faults::Refusal;
+use ping_pong::shadowed::Shadowed;
 use std::fmt;
+use store::stores::Store;
+use zigzag::twins::Twin;
 
 // A call of the scene.
 #[derive(Clone, Copy)]
@@ -27,9 +31,7 @@ impl fmt::Display for Call {
     fn fmt<W: fmt::Write>(&self, f: &mut fmt::Formatter<W>) -> fmt::Result {
         match *self {
             Call::Begin(seat) => write!(f, "begin {seat}"),
-            Call::Change(seat, Change { line, kind, amount }) => {
-                write!(f, "change {seat} {line} {kind} {amount}")
-            }
+            Call::Change(seat, change) => write!(f, "change {seat} {}", InWords(change)),
             Call::Commit(seat) => write!(f, "commit {seat}"),
             Call::Abandon(seat) => write!(f, "abandon {seat}"),
             Call::Look(line) => write!(f, "look {line}"),
@@ -99,77 +101,88 @@ fn opening() -> [Account; 3] {
     ]
 }
 
-pub(crate) fn play_scene<'a, K: Keeper<'a, Line = Account> + Drop>(
-    rt: &HostRuntime,
-    entry: &Entry,
-    memory: &'a mut [K::Cell],
-) -> anyhow::Result<()> {
-    let mut keeper = K::open(&opening(), memory);
-    let count = keeper.count();
-    println!(rt; "{}: {count} lines", entry.echo)?;
-    play_calls(rt, &mut keeper, &before_the_point())?;
-    play_calls(rt, &mut keeper, &behind_the_point())
+// The scene needs no more cells than it has lines.
+const CELLS: usize = 3;
+
+impl<'a> Reporter<'a> {
+    pub(crate) fn play_scene(self, method: Method) -> anyhow::Result<()> {
+        match method {
+            Method::Calc => self.play_by::<Backed<Account>>(),
+            Method::Zigzag => self.play_by::<Twin<Account>>(),
+            Method::PingPong => self.play_by::<Shadowed<Account>>(),
+        }
+    }
+
+    // The scene on a keeper whose cells have these rules.
+    fn play_by<R: Rules<Line = Account>>(self) -> anyhow::Result<()> {
+        let nobody = Account {
+            balance: 0,
+            limit: 0,
+        };
+        let mut cells = vec![in self.rt.alloc(); Store::<R>::blank(nobody); CELLS]?;
+        let mut keeper = Store::<R>::open(&opening(), cells.as_mut_slice());
+        let count = keeper.count();
+        self.answer(format_args!("{count} lines"))?;
+        self.play_calls(&mut keeper, &before_the_point())?;
+        self.play_calls(&mut keeper, &behind_the_point())
+    }
+
+    fn play_calls<'k, K: Keeper<'k, Line = Account>>(
+        self,
+        keeper: &mut K,
+        calls: &[Call],
+    ) -> anyhow::Result<()> {
+        for call in calls {
+            match answer_of(keeper, *call) {
+                Ok(answer) => self.below(format_args!("{call}: {answer}"))?,
+                Err(fault) => {
+                    self.below(format_args!("{call}: {}", Refused(fault.into())))?;
+                }
+            }
+        }
+        Ok(())
+    }
 }
 
-fn play_calls<'a, K: Keeper<'a, Line = Account>>(
-    rt: &HostRuntime,
+// What an accepted call of the scene answers.
+#[derive(Clone, Copy)]
+enum Answer {
+    Done,
+    Line(Numbers),
+    // A line, and whether it was named.
+    Given(Numbers, bool),
+    Nothing,
+}
+
+impl fmt::Display for Answer {
+    fn fmt<W: fmt::Write>(&self, f: &mut fmt::Formatter<W>) -> fmt::Result {
+        match *self {
+            Answer::Done => write!(f, "ok"),
+            Answer::Line(numbers) | Answer::Given(numbers, false) => write!(f, "{numbers}"),
+            Answer::Given(numbers, true) => write!(f, "{numbers} named"),
+            Answer::Nothing => write!(f, "none"),
+        }
+    }
+}
+
+fn answer_of<'a, K: Keeper<'a, Line = Account>>(
     keeper: &mut K,
-    calls: &[Call],
-) -> anyhow::Result<()> {
-    for call in calls {
-        print!(rt; "  {call}: ")?;
-        match *call {
-            Call::Begin(seat) => print_done(rt, keeper.begin(seat))?,
-            Call::Change(seat, change) => print_done(rt, keeper.change(seat, change))?,
-            Call::Commit(seat) => print_done(rt, keeper.commit(seat))?,
-            Call::Abandon(seat) => print_done(rt, keeper.abandon(seat))?,
-            Call::Look(line) => print_look(rt, keeper.look(line))?,
-            Call::Call => print_done(rt, keeper.call())?,
-            Call::Turn => print_done(rt, keeper.turn())?,
-            Call::Give => print_given(rt, keeper.give())?,
+    call: Call,
+) -> Result<Answer, KeeperFault> {
+    match call {
+        Call::Begin(seat) => keeper.begin(seat)?,
+        Call::Change(seat, change) => keeper.change(seat, change)?,
+        Call::Commit(seat) => keeper.commit(seat)?,
+        Call::Abandon(seat) => keeper.abandon(seat)?,
+        Call::Call => keeper.call()?,
+        Call::Turn => keeper.turn()?,
+        Call::Look(line) => return Ok(Answer::Line(keeper.look(line)?.numbers())),
+        Call::Give => {
+            return Ok(match keeper.give() {
+                Some(Given { line, named }) => Answer::Given(line.numbers(), named),
+                None => Answer::Nothing,
+            });
         }
     }
-    Ok(())
-}
-
-fn print_done(rt: &HostRuntime, answer: Result<(), KeeperFault>) -> anyhow::Result<()> {
-    match answer {
-        Ok(()) => println!(rt; "ok")?,
-        Err(fault) => print_fault(rt, fault)?,
-    }
-    Ok(())
-}
-
-fn print_look(rt: &HostRuntime, answer: Result<Account, KeeperFault>) -> anyhow::Result<()> {
-    match answer {
-        Ok(line) => {
-            let (first, second) = line.numbers();
-            println!(rt; "{first} {second}")?;
-        }
-        Err(fault) => print_fault(rt, fault)?,
-    }
-    Ok(())
-}
-
-fn print_given(rt: &HostRuntime, given: Option<Given<Account>>) -> anyhow::Result<()> {
-    match given {
-        Some(given) => {
-            let (first, second) = given.line.numbers();
-            let named = if given.named { " named" } else { "" };
-            println!(rt; "{first} {second}{named}")?;
-        }
-        None => println!(rt; "none")?,
-    }
-    Ok(())
-}
-
-fn print_fault(rt: &HostRuntime, fault: KeeperFault) -> anyhow::Result<()> {
-    let Refusal {
-        number,
-        layer,
-        place,
-    } = fault.refusal();
-    let layer = layer_name(layer);
-    println!(rt; "refused {number} {layer} {place}")?;
-    Ok(())
+    Ok(Answer::Done)
 }

@@ -1,18 +1,13 @@
 -- What a caller is told of a keeper's refusal.
 --
---   told n l p   the refusal of number n by the layer l, at the place p
 --   refusal f    what is told of the fault f; a line's own is told as the line tells it
-use Rattle.std.specs.Prelude.{ℕ}
-use Rattle.lines.specs.declared.faults.Layer.{Layer}
 use Rattle.lines.specs.declared.faults.Layer.TheVariants.{Book, Keeper}
 use Rattle.lines.specs.declared.faults.Refusal.{Refusal}
+use Rattle.lines.specs.Faults.{told}
 use Rattle.lines.specs.Faults as lines
 use Rattle.keepers.specs.declared.faults.KeeperFault.{KeeperFault}
 use Rattle.keepers.specs.declared.faults.KeeperFault.TheVariants.{NoSuchSeat, SeatOpen, SeatNotOpen, Held, FifthChange, Quiet, NotAtRest, WaitsForSeat, WaitsForLines, AtRest, Line}
 use Rattle.keepers.specs.Stages.{number}
-
-abbrev pub told : ℕ → Layer → ℕ → Refusal
-told number layer place = record { number = number; layer = layer; place = place }
 
 abbrev pub refusal : KeeperFault → Refusal
 refusal (NoSuchSeat seat) = told 1 Book seat

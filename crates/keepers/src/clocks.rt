@@ -14,18 +14,20 @@ pub struct Clock {
     pub sense: bool,
 }
 
-impl Clock {
+impl Default for Clock {
+    ghost is_default = { λ clock. clock ≡ start };
+
     // In Rest, with no point passed.
-    pub fn new() -> Clock
-        ensures { result ≡ start }
-    {
+    fn default() -> Clock {
         Clock {
             stage: Stage::Rest,
             odd: false,
             sense: false,
         }
     }
+}
 
+impl Clock {
     // One stage on, as the stage goes. On the turn from Called one more point is passed; at the end of a round the sense turns over.
     pub fn step(&mut self, step: Step) -> Result<(), KeeperFault>
         ensures answer { result ≡ verdict (stepped step self.old.stage) }
@@ -33,8 +35,8 @@ impl Clock {
     {
         let was = self.stage;
         self.stage.step(step)?;
-        self.odd = self.odd != was.is(Stage::Called);
-        self.sense = self.sense != was.is(Stage::Closing);
+        self.odd = self.odd != (was == Stage::Called);
+        self.sense = self.sense != (was == Stage::Closing);
         Ok(())
     }
 }

@@ -1,7 +1,7 @@
 // Why a keeper turns a call away.
 ghost use Rattle.std.specs.Prelude.{◌≡◌};
 ghost use Rattle.keepers.specs.declared.faults.KeeperFault.TheVariants.{Line as OfLine};
-ghost use Rattle.keepers.specs.Faults.{refusal, told};
+ghost use Rattle.keepers.specs.Faults.{refusal};
 
 use crate::stages::Stage;
 use lines::faults::{Layer, LineFault, Refusal};
@@ -40,32 +40,22 @@ impl From<LineFault> for KeeperFault {
     }
 }
 
-fn refused(number: u8, layer: Layer, place: usize) -> Refusal
-    ensures { result ≡ told number layer place }
-{
-    Refusal {
-        number,
-        layer,
-        place,
-    }
-}
+impl From<KeeperFault> for Refusal {
+    ghost from_gives = { λ fault r. r ≡ refusal fault };
 
-impl KeeperFault {
-    pub fn refusal(self) -> Refusal
-        ensures { result ≡ refusal self }
-    {
-        match self {
-            KeeperFault::NoSuchSeat(seat) => refused(1, Layer::Book, seat as usize),
-            KeeperFault::SeatOpen(seat) => refused(20, Layer::Keeper, seat as usize),
-            KeeperFault::SeatNotOpen(seat) => refused(21, Layer::Keeper, seat as usize),
-            KeeperFault::Held(line) => refused(22, Layer::Keeper, line as usize),
-            KeeperFault::FifthChange(seat) => refused(23, Layer::Keeper, seat as usize),
-            KeeperFault::Quiet(seat) => refused(25, Layer::Keeper, seat as usize),
-            KeeperFault::NotAtRest(stage) => refused(27, Layer::Book, stage.number() as usize),
-            KeeperFault::WaitsForSeat(seat) => refused(28, Layer::Keeper, seat),
-            KeeperFault::WaitsForLines(lines) => refused(28, Layer::Keeper, lines),
-            KeeperFault::AtRest => refused(29, Layer::Book, 0),
-            KeeperFault::Line(fault) => fault.refusal(),
+    fn from(fault: KeeperFault) -> Refusal {
+        match fault {
+            KeeperFault::NoSuchSeat(seat) => Refusal::new(1, Layer::Book, usize::from(seat)),
+            KeeperFault::SeatOpen(seat) => Refusal::new(20, Layer::Keeper, usize::from(seat)),
+            KeeperFault::SeatNotOpen(seat) => Refusal::new(21, Layer::Keeper, usize::from(seat)),
+            KeeperFault::Held(line) => Refusal::new(22, Layer::Keeper, usize::from(line)),
+            KeeperFault::FifthChange(seat) => Refusal::new(23, Layer::Keeper, usize::from(seat)),
+            KeeperFault::Quiet(seat) => Refusal::new(25, Layer::Keeper, usize::from(seat)),
+            KeeperFault::NotAtRest(stage) => Refusal::new(27, Layer::Book, usize::from(stage)),
+            KeeperFault::WaitsForSeat(seat) => Refusal::new(28, Layer::Keeper, seat),
+            KeeperFault::WaitsForLines(lines) => Refusal::new(28, Layer::Keeper, lines),
+            KeeperFault::AtRest => Refusal::new(29, Layer::Book, 0),
+            KeeperFault::Line(fault) => Refusal::from(fault),
         }
     }
 }

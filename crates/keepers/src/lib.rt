@@ -4,7 +4,7 @@
 pub mod clocks;
 pub mod faults;
 pub mod given;
-pub mod named_bits;
+pub mod pairs;
 pub mod rules;
 pub mod seats;
 pub mod stages;

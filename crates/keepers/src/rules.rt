@@ -9,6 +9,9 @@ use crate::given::Given;
 use crate::stages::Stage;
 use lines::traits::Line;
 
+// The most lines that a method may keep; each says for itself how many it does.
+pub const MOST_LINES: usize = 1024;
+
 // What a cell keeps of its line beside its holder and its before line, and the method's rules on it.
 pub trait Rules: Copy {
     type Line: Line;
@@ -32,56 +35,38 @@ pub trait Rules: Copy {
 
     // A cell at opening.
     fn fresh(line: Self::Line) -> Self
-    where
-        Self: Sized,
         ensures { result ≡ method.fresh line };
 
     // A command's first change of the line, to `line`; the command began in `began`.
     fn first(self, clock: Clock, began: Stage, line: Self::Line) -> Self
-    where
-        Self: Sized,
         ensures { result ≡ method.first clock began self line };
 
     // Its further changes of that line.
     fn later(self, clock: Clock, line: Self::Line) -> Self
-    where
-        Self: Sized,
         ensures { result ≡ method.later clock self line };
 
     // The command that holds the line is committed.
     fn commit(self, clock: Clock, began: Stage) -> Self
-    where
-        Self: Sized,
         ensures { result ≡ method.commit clock began self };
 
     // It is abandoned; `before` is the line as it was.
     fn abandon(self, clock: Clock, began: Stage, before: Self::Line) -> Self
-    where
-        Self: Sized,
         ensures { result ≡ method.abandon clock began self before };
 
     // What giving out answers.
     fn gives(self, clock: Clock) -> Given<Self::Line>
-    where
-        Self: Sized,
         ensures { result ≡ method.gives clock self };
 
     // The cell after it.
     fn given(self, clock: Clock) -> Self
-    where
-        Self: Sized,
         ensures { result ≡ method.given clock self };
 
     // The cell at the point.
     fn pointed(self) -> Self
-    where
-        Self: Sized,
         ensures { result ≡ method.pointed self };
 
     // The line with every change made.
     fn live(self) -> Self::Line
-    where
-        Self: Sized,
         ensures { result ≡ method.live self };
 
     ghost lawful: { Lawful method sound };

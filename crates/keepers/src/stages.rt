@@ -1,11 +1,11 @@
 // The five stages, from one image to the next.
 ghost use Rattle.std.specs.Prelude.{◌≡◌};
-ghost use Rattle.keepers.specs.Stages.{number, stepped, settled, verdict, same as one};
+ghost use Rattle.keepers.specs.Stages.{number, stepped, settled, verdict};
 ghost use Rattle.logs.specs.Logs.{Untouched};
 
 use crate::faults::KeeperFault;
 
-#[derive(Clone, Copy)]
+#[derive(Clone, Copy, PartialEq, Eq)]
 pub enum Stage {
     Rest,
     Called,
@@ -21,12 +21,12 @@ pub enum Step {
     Turn,
 }
 
-impl Stage {
-    // 0 to 4, in their order.
-    pub fn number(self) -> u8
-        ensures { result ≡ number self }
-    {
-        match self {
+// 0 to 4, in their order.
+impl From<Stage> for usize {
+    ghost from_gives = { λ stage n. n ≡ number stage };
+
+    fn from(stage: Stage) -> usize {
+        match stage {
             Stage::Rest => 0,
             Stage::Called => 1,
             Stage::Pointed => 2,
@@ -34,13 +34,9 @@ impl Stage {
             Stage::Closing => 4,
         }
     }
+}
 
-    pub fn is(self, other: Stage) -> bool
-        ensures { result ≡ one self other }
-    {
-        self.number() == other.number()
-    }
-
+impl Stage {
     // One stage on: a call leads out of Rest, turns lead round to it again.
     pub fn step(&mut self, step: Step) -> Result<(), KeeperFault>
         ensures answer { result ≡ verdict (stepped step self.old) }

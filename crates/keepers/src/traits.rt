@@ -16,6 +16,8 @@ use records::commands::Command;
 // Holds lines while commands run in sixteen seats and the lines of a point are given out.
 //
 // A keeper of which nothing is known is safe to call, and a refusal leaves it as it was. What a call answers and means is said of a valid one: a new keeper is valid, and every call keeps it so.
+//
+// The clauses `same` and `spare` stand at each call and not in one word for both: a caller cites either alone, and the word would only send its reader to another file.
 pub trait Keeper<'a>: Sized {
     type Line: Line;
 

@@ -4,84 +4,92 @@
 #[cfg(test)]
 mod tests {
     use keepers::faults::KeeperFault;
-    use keepers::given::Given;
     use keepers::rules::Rules;
     use keepers::traits::Keeper;
     use kinds::accounts::Account;
     use lines::changes::Change;
+    use lines::faults::Refusal;
     use lines::traits::Line;
     use std::test::Fail;
     use zigzag::twins::Zigzag;
 
-    // A call and what is expected of it: the number of its refusal, 0 where it is accepted.
+    // What a call is answered: accepted, or the number of the refusal.
+    type Answer = Result<(), u8>;
+
+    const ACCEPTED: Answer = Ok(());
+
+    // A call and what is expected of it.
     #[derive(Clone, Copy)]
     enum Call {
-        Begin(u8, u8),
+        Begin(u8, Answer),
         // Seat, line, change kind, amount.
-        Change(u8, u16, u8, u32, u8),
-        Commit(u8, u8),
-        Abandon(u8, u8),
-        Image(u8),
-        Turn(u8),
-        // The balance, and whether the line is named.
-        Give(i64, bool),
-        GiveNone,
+        Change(u8, u16, u8, u32, Answer),
+        Commit(u8, Answer),
+        Abandon(u8, Answer),
+        Image(Answer),
+        Turn(Answer),
+        // The balance, and whether the line is named; or that no line is given out.
+        Give(Option<(i64, bool)>),
         Look(u16, i64),
     }
 
     // Out of Rest into Taking, and from there back.
-    const TO_TAKING: [Call; 3] = [Call::Image(0), Call::Turn(0), Call::Turn(0)];
+    const TO_TAKING: [Call; 3] = [
+        Call::Image(ACCEPTED),
+        Call::Turn(ACCEPTED),
+        Call::Turn(ACCEPTED),
+    ];
 
-    const TO_REST: [Call; 3] = [Call::GiveNone, Call::Turn(0), Call::Turn(0)];
+    const TO_REST: [Call; 3] = [Call::Give(None), Call::Turn(ACCEPTED), Call::Turn(ACCEPTED)];
 
     // Two seats, one of which abandons; a point; lines given out while a change goes on.
     const FIRST_IMAGE: [Call; 24] = [
-        Call::Begin(0, 0),
-        Call::Begin(1, 0),
-        Call::Change(0, 0, 1, 50, 0),
-        Call::Change(1, 0, 1, 1, 22),
-        Call::Change(1, 1, 2, 20, 0),
+        Call::Begin(0, ACCEPTED),
+        Call::Begin(1, ACCEPTED),
+        Call::Change(0, 0, 1, 50, ACCEPTED),
+        Call::Change(1, 0, 1, 1, Err(22)),
+        Call::Change(1, 1, 2, 20, ACCEPTED),
         Call::Look(0, 100),
         Call::Look(1, 200),
-        Call::Commit(0, 0),
-        Call::Abandon(1, 0),
+        Call::Commit(0, ACCEPTED),
+        Call::Abandon(1, ACCEPTED),
         Call::Look(0, 150),
         Call::Look(1, 200),
-        Call::Image(0),
-        Call::Turn(0),
-        Call::Begin(2, 0),
-        Call::Turn(0),
-        Call::Change(2, 1, 1, 7, 0),
-        Call::Turn(28),
-        Call::Give(150, true),
-        Call::Give(200, false),
-        Call::Turn(0),
-        Call::Turn(28),
-        Call::Commit(2, 0),
+        Call::Image(ACCEPTED),
+        Call::Turn(ACCEPTED),
+        Call::Begin(2, ACCEPTED),
+        Call::Turn(ACCEPTED),
+        Call::Change(2, 1, 1, 7, ACCEPTED),
+        Call::Turn(Err(28)),
+        Call::Give(Some((150, true))),
+        Call::Give(Some((200, false))),
+        Call::Turn(ACCEPTED),
+        Call::Turn(Err(28)),
+        Call::Commit(2, ACCEPTED),
         Call::Look(1, 207),
-        Call::Turn(0),
+        Call::Turn(ACCEPTED),
     ];
 
     // Who is turned away, and in which order.
     const REFUSALS: [Call; 19] = [
-        Call::Begin(16, 1),
-        Call::Commit(255, 1),
-        Call::Abandon(3, 21),
-        Call::Begin(15, 0),
-        Call::Begin(15, 20),
-        Call::Change(15, 2, 9, 0, 2),
-        Call::Change(15, 1, 9, 0, 5),
-        Call::Change(15, 1, 2, 201, 24),
-        Call::Change(15, 1, 2, 50, 0),
-        Call::Change(15, 1, 2, 50, 0),
-        Call::Change(15, 1, 2, 50, 0),
-        Call::Change(15, 1, 2, 50, 0),
-        Call::Change(15, 1, 9, 0, 23),
-        Call::Turn(29),
-        Call::Image(0),
-        Call::Image(27),
-        Call::Turn(28),
-        Call::Commit(15, 0),
+        Call::Begin(16, Err(1)),
+        Call::Commit(255, Err(1)),
+        Call::Abandon(3, Err(21)),
+        Call::Begin(15, ACCEPTED),
+        Call::Begin(15, Err(20)),
+        Call::Change(15, 2, 9, 0, Err(2)),
+        Call::Change(15, 1, 9, 0, Err(5)),
+        Call::Change(15, 1, 2, 201, Err(24)),
+        Call::Change(15, 1, 2, 50, ACCEPTED),
+        Call::Change(15, 1, 2, 50, ACCEPTED),
+        Call::Change(15, 1, 2, 50, ACCEPTED),
+        Call::Change(15, 1, 2, 50, ACCEPTED),
+        Call::Change(15, 1, 9, 0, Err(23)),
+        Call::Turn(Err(29)),
+        Call::Image(ACCEPTED),
+        Call::Image(Err(27)),
+        Call::Turn(Err(28)),
+        Call::Commit(15, ACCEPTED),
         Call::Look(1, 0),
     ];
 
@@ -89,41 +97,27 @@ mod tests {
         Account { balance, limit: 0 }
     }
 
-    fn number(answer: Result<(), KeeperFault>) -> u8 {
-        match answer {
-            Ok(()) => 0,
-            Err(fault) => fault.refusal().number,
-        }
-    }
-
-    fn is_given(given: Option<Given<Account>>, balance: i64, named: bool) -> bool {
-        match given {
-            None => false,
-            Some(given) => given.line.balance == balance && given.named == named,
-        }
-    }
-
-    fn is_balance(answer: Result<Account, KeeperFault>, balance: i64) -> bool {
-        match answer {
-            Ok(account) => account.balance == balance,
-            Err(_) => false,
-        }
+    fn number(answer: Result<(), KeeperFault>) -> Answer {
+        answer.map_err(|fault| Refusal::from(fault).number)
     }
 
     // Makes the call, and says whether it went as expected.
     fn made<'a, K: Keeper<'a, Line = Account>>(keeper: &mut K, call: Call) -> bool {
         match call {
-            Call::Begin(seat, n) => number(keeper.begin(seat)) == n,
-            Call::Change(seat, line, kind, amount, n) => {
-                number(keeper.change(seat, Change { line, kind, amount })) == n
+            Call::Begin(seat, answer) => number(keeper.begin(seat)) == answer,
+            Call::Change(seat, line, kind, amount, answer) => {
+                number(keeper.change(seat, Change { line, kind, amount })) == answer
             }
-            Call::Commit(seat, n) => number(keeper.commit(seat)) == n,
-            Call::Abandon(seat, n) => number(keeper.abandon(seat)) == n,
-            Call::Image(n) => number(keeper.call()) == n,
-            Call::Turn(n) => number(keeper.turn()) == n,
-            Call::Give(balance, named) => is_given(keeper.give(), balance, named),
-            Call::GiveNone => keeper.give().is_none(),
-            Call::Look(line, balance) => is_balance(keeper.look(line), balance),
+            Call::Commit(seat, answer) => number(keeper.commit(seat)) == answer,
+            Call::Abandon(seat, answer) => number(keeper.abandon(seat)) == answer,
+            Call::Image(answer) => number(keeper.call()) == answer,
+            Call::Turn(answer) => number(keeper.turn()) == answer,
+            Call::Give(answer) => {
+                keeper.give().map(|given| (given.line.balance, given.named)) == answer
+            }
+            Call::Look(line, balance) => {
+                keeper.look(line).ok().map(|account| account.balance) == Some(balance)
+            }
         }
     }
 
@@ -144,7 +138,7 @@ mod tests {
         }
         play(keeper, &TO_TAKING)?;
         for _k in 0..lines {
-            play(keeper, &[Call::Turn(28), Call::Give(5, false)])?;
+            play(keeper, &[Call::Turn(Err(28)), Call::Give(Some((5, false)))])?;
         }
         play(keeper, &TO_REST)
     }
@@ -157,7 +151,10 @@ mod tests {
         play(&mut keeper, &TO_TAKING)?;
         play(
             &mut keeper,
-            &[Call::Give(150, false), Call::Give(207, true)],
+            &[
+                Call::Give(Some((150, false))),
+                Call::Give(Some((207, true))),
+            ],
         )?;
         play(&mut keeper, &TO_REST)
     }
@@ -167,7 +164,7 @@ mod tests {
         let mut memory = [Zigzag::blank(account(0)); 2];
         let mut keeper = Zigzag::open(&[account(100), account(200)], &mut memory);
         play(&mut keeper, &REFUSALS)?;
-        play(&mut keeper, &[Call::Begin(4, 25)])
+        play(&mut keeper, &[Call::Begin(4, Err(25))])
     }
 
     #[test]

@@ -19,6 +19,7 @@ pub struct Account {
     pub limit: u32,
 }
 
+// The byte that stands for the kind in an image.
 const CODE: u8 = 1;
 
 const CEILING: i64 = 1_000_000_000_000;

@@ -19,6 +19,7 @@ pub struct StockLine {
     pub reserved: u32,
 }
 
+// The byte that stands for the kind in an image.
 const CODE: u8 = 2;
 
 const CEILING: u32 = 10_000_000;

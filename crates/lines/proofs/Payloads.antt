@@ -127,19 +127,6 @@ put_fits bs m h = let t = le-leb (length bs) (length m) h in (rw t, rw t)
 pub put-short : (bs m : List ℕ) → length m < length bs → (room bs m ≡ None) × (put bs m ≡ m)
 put-short bs m h = let t = lt-leb (length bs) (length m) h in (rw t, rw t)
 
--- the clauses of a writer of two numbers, where they fit and where they do not
-module _ (j k m n : ℕ) (out : List ℕ) where
-  pub two_fit : j + k ≤ length out
-      → (room (le j m ++ le k n) out ≡ Some (j + k)) × (put (le j m ++ le k n) out ≡ put_mid j k (le j m ++ drop j out) (le k n))
-  two_fit h =
-      let long : length (le j m ++ le k n) ≡ j + k = length_two j k m n in
-      let fits = put_fits (le j m ++ le k n) out (omega arith) in
-      let parts = two_parts j k (le j m) (le k n) out (length-le j m) (length-le k n) in
-      (fits.0 ∙ ap Some long, fits.1 ∙ rw long (sym parts))
-
-  pub two_short : length out < j + k → (room (le j m ++ le k n) out ≡ None) × (put (le j m ++ le k n) out ≡ out)
-  two_short h = put-short (le j m ++ le k n) out (omega (arith, length_two j k m n))
-
 -- bytes that fill memory are all that it holds
 pub put_whole : (bs m : List ℕ) → length bs ≡ length m → put bs m ≡ bs
 put_whole bs m e =

@@ -1,6 +1,7 @@
 // A change as a value.
 
-// One change of one line. Which kinds there are, and what the amount counts, is the line's own affair.
+// One change of one line. Which kinds there are, and what the amount counts, is the line's own affair: so the kind is a number here, and the kind of line
+// converts it or refuses it.
 #[derive(Clone, Copy, PartialEq, Eq)]
 pub struct Change {
     pub line: u16,

@@ -28,7 +28,8 @@ impl fmt::Display for Layer {
     }
 }
 
-// A refusal as a support desk hears it. What `place` counts (a seat, a line, an offset) goes with the number.
+// A refusal as a support desk hears it, one for all layers: so its number is a number, and the enum of each layer's faults converts to it. What `place` counts
+// (a seat, a line, an offset) goes with the number.
 #[derive(Clone, Copy)]
 pub struct Refusal {
     pub number: u8,

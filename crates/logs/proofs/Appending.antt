@@ -1,75 +1,95 @@
 -- One entry appended to a byte log.
-use Rattle.std.proofs.Common.{◌≡◌, ℕ, ◌+◌, ◌-◌, ◌<◌, ◌≤◌, true, false, leb, List, [], ◌∷◌, ◌++◌, length, take, drop, Some, None, Ok, Err, sym, refl, ap, ◌∙◌, inl, inr, arith}
-use Rattle.std.proofs.lemmas.List.{length-append, length-take-le, length-drop, length_push, take_at}
-use Rattle.std.proofs.lemmas.Bool.{cases_Bool, le-leb, lt-leb}
-use Rattle.lines.specs.Bytes.{room, put}
-use Rattle.records.proofs.CommandValues.{command-lawful}
-use Rattle.records.proofs.Framed.{length-framed}
-use Rattle.records.proofs.OneNumber.{mark-lawful}
-use Rattle.records.specs.Commands.{command_record}
-use Rattle.records.specs.Numbers.{mark_record}
+use Rattle.std.proofs.Common.{◌≡◌, ℕ, ◌+◌, ◌-◌, ◌≤◌, true, false, List, [], ◌∷◌, ◌++◌, length, take, drop, Some, None, Ok, Err, sym, ap, ◌∙◌, inl, inr, arith}
+use borrow.Rule.Slice.PartMut.{put_mid, put_same}
+use mathlib.Core.HLevel.{is_prop→PathP}
+use mathlib.Core.List.{is_set}
+use native.Mathlib.Bridge.{le_prop}
+use native.Mathlib.Nat.{ℕ_set}
+use Rattle.std.proofs.lemmas.List.{append_assoc, drop-append-le, drop-drop, length-append, length-take-le, length-drop, length_push, take-append-drop}
+use Rattle.std.proofs.lemmas.Bool.{cases_lt, le-leb, lt-leb}
+use Rattle.lines.specs.Bytes.{overwritten, put, room}
+use Rattle.lines.proofs.Payloads.{put_fits, put-short}
+use Rattle.logs.specs.declared.byte_log.ByteLog.{ByteLog}
 use Rattle.logs.specs.declared.entries.Entry.{Entry}
-use Rattle.logs.specs.declared.entries.Entry.TheVariants.{Command, Mark}
 use Rattle.logs.specs.declared.faults.LogFault.TheVariants.{Full}
-use Rattle.logs.specs.ByteLogs.{byte_capacity, log_in, overwritten}
-use Rattle.logs.specs.ByteLaws.{cost_least}
+use Rattle.logs.specs.ByteLogs.{byte_capacity, byte_log, log_in}
+use Rattle.logs.specs.ByteLaws.{used_spent}
 use Rattle.logs.specs.Logs as logs
+use Rattle.logs.specs.Logs.{append, verdict}
 use Rattle.logs.specs.RecordRuns.{entry_bytes, entry_fits, byte_cost, written, entries_in}
-use Rattle.logs.proofs.ByteRuns.{used_spent, appended_bytes, appended_entries}
+use Rattle.logs.proofs.ByteRuns.{appended_bytes, appended_entries}
 
--- no log record is longer than 32 bytes
-pub cost_most : (e : Entry) → entry_fits e ≡ true → byte_cost e ≤ 32
-cost_most (Command c) fits = omega (arith, length-framed 4 (command_record.body c), command-lawful.short c fits)
-cost_most (Mark point) fits = omega (arith, length-framed 5 (mark_record.body point), mark-lawful.short point fits)
+-- two logs with the same memory, the same length and the same count are the same
+pub same_log : (a b : ByteLog) → a.memory ≡ b.memory → a.used ≡ b.used → a.count ≡ b.count → a ≡ b
+same_log a b memory used count = λ i. record {
+  memory = memory i;
+  used = used i;
+  count = count i;
+  inside = is_prop→PathP (λ j. used j ≤ length (memory j).now) (λ j. le_prop) a.inside b.inside i;
+  few = is_prop→PathP (λ j. used j ≤ 65536) (λ j. le_prop) a.few b.few i;
+  whole = is_prop→PathP (λ j. written (entries_in (take (used j) (memory j).now)) ≡ take (used j) (memory j).now) (λ j. is_set ℕ_set (written (entries_in (take (used j) (memory j).now))) (take (used j) (memory j).now)) a.whole b.whole i;
+  counted = is_prop→PathP (λ j. count j ≡ length (entries_in (take (used j) (memory j).now))) (λ j. ℕ_set (count j) (length (entries_in (take (used j) (memory j).now)))) a.counted b.counted i;
+}
 
--- there are no more entries than bytes
-entries_few : (es : List Entry) → length es ≤ logs.spent byte_cost es
-entries_few [] = omega arith
-entries_few (e ∷ es) = omega (arith, cost_least e, entries_few es)
+-- An entry e that was written into the memory m behind what the log l uses: `out` is what the part that was lent holds now, `held` the whole.
+module _ (l : ByteLog) (e : Entry) (end : ℕ) (cap : end ≡ byte_capacity l.memory.now) (out : List ℕ) where
+  abbrev m : List ℕ
+  m = l.memory.now
 
--- a record that was written into a buffer is its front
-pub in_buffer : (bs m out : List ℕ) (n : ℕ) → Some n ≡ room bs m → out ≡ put bs m → (n ≡ length bs) × (take n out ≡ bs)
-in_buffer bs m out n r o = elim (cases_Bool (leb (length bs) (length m))) [
-  | inl t ↦
-      let e : Some n ≡ Some (length bs) = rw t at r in
-      let same : n ≡ length bs = cc in
-      (same, rw (o, t, same, take_at bs (drop (length bs) m) (length bs) refl))
-  | inr f ↦ let e : Some n ≡ None = rw f at r in let z : ◌≡◌ {A = ℕ} 0 1 = cc in absurd (omega arith)
-]
+  abbrev part : List ℕ
+  part = take (end - l.used) (drop l.used m)
 
-pub no_buffer : (bs m : List ℕ) → None ≡ room bs m → length bs ≤ length m → ⊥
-no_buffer bs m r h = let e : None ≡ Some (length bs) = rw (le-leb (length bs) (length m) h) at r in let z : ◌≡◌ {A = ℕ} 0 1 = cc in omega arith
+  abbrev held : List ℕ
+  held = put_mid l.used (end - l.used) m out
 
-module _ (m : List ℕ) (used count : ℕ) (inside : used ≤ length m) (whole : written (entries_in (take used m)) ≡ take used m) (counted : count ≡ length (entries_in (take used m))) (e : Entry) where
-  pub count_few : count ≤ used
-  count_few = omega (arith, entries_few (entries_in (take used m)), used_spent m used inside whole)
+  long : length part ≡ end - l.used
+  long = length-take-le (end - l.used) (drop l.used m) (omega (arith, length-drop l.used m))
 
-  -- where there is no room for its record
-  pub append_full : byte_capacity m - used < byte_cost e
-      → (logs.verdict byte_cost (log_in m used) e ≡ Err (Full count)) × (logs.append byte_cost (log_in m used) e ≡ log_in m used)
-  append_full h =
-      let none : logs.room byte_cost (log_in m used) e ≡ false = lt-leb _ _ (omega (arith, used_spent m used inside whole)) in
-      (rw (none, ← counted), rw none)
+  pub record Refused : Type 0 where
+    pub answer : Err (Full l.count) ≡ verdict byte_cost (byte_log l) e
+    pub state : log_in held l.used ≡ append byte_cost (byte_log l) e
+    pub memory : held ≡ m
 
-  module _ (fits : entry_fits e ≡ true) (small : used + byte_cost e ≤ byte_capacity m) (after : List ℕ) (is : after ≡ overwritten m used (entry_bytes e)) where
-    same_length : length after ≡ length m
-    same_length = ap length is ∙ rw (length-append, length-append, length-take-le used m inside, length-drop) (omega arith)
+  -- where the record does not fit, nothing is written
+  pub refused : None ≡ room (entry_bytes e) part → out ≡ put (entry_bytes e) part → Refused
+  refused answer after = elim (cases_lt (length part) (byte_cost e)) [
+    | inl short ↦
+        let none : logs.room byte_cost (byte_log l) e ≡ false = lt-leb _ _ (omega (arith, used_spent l, long, l.inside, l.few)) in
+        let same : held ≡ m = rw (after, (put-short (entry_bytes e) part short).1) (put_same l.used (end - l.used) m) in
+        record { answer = rw (none, ← l.counted); state = rw (none, same); memory = same }
+    | inr fits ↦ let e : None ≡ Some _ = answer ∙ (put_fits (entry_bytes e) part fits).0 in let z : ◌≡◌ {A = ℕ} 0 1 = cc in absurd (omega arith)
+  ]
 
-    entries : entries_in (take (used + byte_cost e) after) ≡ entries_in (take used m) ++ (e ∷ [])
-    entries = rw is (appended_entries m used inside whole e fits)
+  pub record Accepted (n : ℕ) : Type 0 where
+    pub inside : l.used + n ≤ length held
+    pub few : l.used + n ≤ 65536
+    pub whole : written (entries_in (take (l.used + n) held)) ≡ take (l.used + n) held
+    pub counted : l.count + 1 ≡ length (entries_in (take (l.used + n) held))
+    pub answer : Ok tt ≡ verdict byte_cost (byte_log l) e
+    pub state : log_in held (l.used + n) ≡ append byte_cost (byte_log l) e
+    pub memory : held ≡ overwritten m l.used (entry_bytes e)
 
-    pub append-room : (logs.verdict byte_cost (log_in m used) e ≡ Ok tt) × (logs.append byte_cost (log_in m used) e ≡ log_in after (used + byte_cost e))
-    append-room =
-        let some : logs.room byte_cost (log_in m used) e ≡ true = le-leb _ _ (omega (arith, used_spent m used inside whole)) in
-        (rw some, rw (some, entries, same_length))
-
-    -- the log is again sound
-    pub append-sound : (used + byte_cost e ≤ length after) × (used + byte_cost e ≤ 65536)
-        × (written (entries_in (take (used + byte_cost e) after)) ≡ take (used + byte_cost e) after)
-        × (count + 1 ≡ length (entries_in (take (used + byte_cost e) after)))
-    append-sound = (
-      omega (arith, same_length),
-      omega arith,
-      rw entries (sym (rw is (appended_bytes m used inside whole e fits))),
-      sym (rw entries (length_push (entries_in (take used m)) e ∙ omega arith)),
-    )
+  -- else it stands behind what was used, and the log is again sound
+  pub accepted : (n : ℕ) → Some n ≡ room (entry_bytes e) part → out ≡ put (entry_bytes e) part → entry_fits e ≡ true → Accepted n
+  accepted n answer after fit = elim (cases_lt (length part) (byte_cost e)) [
+    | inl short ↦ let e : Some n ≡ None = answer ∙ (put-short (entry_bytes e) part short).0 in let z : ◌≡◌ {A = ℕ} 0 1 = cc in absurd (omega arith)
+    | inr fits ↦
+        let bs = entry_bytes e in
+        let rest = drop l.used m in
+        let told : Some n ≡ Some (byte_cost e) = answer ∙ (put_fits bs part fits).0 in
+        let size : n ≡ byte_cost e = cc in
+        let behind : drop (length bs) part ++ drop (end - l.used) rest ≡ drop (length bs) rest = rw (← drop-append-le (length bs) part (drop (end - l.used) rest) fits, take-append-drop (end - l.used) rest) in
+        let memory : held ≡ overwritten m l.used bs = rw (after, (put_fits bs part fits).1, append_assoc bs (drop (length bs) part) (drop (end - l.used) rest), behind, drop-drop (length bs) l.used m) in
+        let same_length : length held ≡ length m = ap length memory ∙ rw (length-append, length-append, length-take-le l.used m l.inside, length-drop) (omega (arith, long, l.inside)) in
+        let entries : entries_in (take (l.used + n) held) ≡ (byte_log l).entries ++ (e ∷ []) = rw (size, memory) (appended_entries l e fit) in
+        let some : logs.room byte_cost (byte_log l) e ≡ true = le-leb _ _ (omega (arith, used_spent l, long, l.inside, l.few)) in
+        record {
+          inside = omega (arith, same_length, long, l.inside);
+          few = omega (arith, long, l.inside, l.few);
+          whole = rw entries (sym (rw (size, memory) (appended_bytes l e fit)));
+          counted = sym (rw entries (length_push (byte_log l).entries e ∙ omega (arith, l.counted)));
+          answer = rw some;
+          state = rw (some, entries, same_length);
+          memory = memory;
+        }
+  ]

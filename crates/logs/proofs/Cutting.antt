@@ -1,6 +1,7 @@
 -- Records cut at any byte: those that are whole are read, and the one that is cut is not.
-use Rattle.std.proofs.Common.{◌≡◌, ℕ, zero, suc, ◌-◌, ◌<◌, ◌≤◌, true, List, [], ◌∷◌, ◌++◌, length, take, drop, Some, None, Option, sym, refl, ap, ◌∙◌, inl, inr, arith}
+use Rattle.std.proofs.Common.{◌≡◌, ℕ, ◌+◌, zero, suc, ◌-◌, ◌<◌, ◌≤◌, true, List, [], ◌∷◌, ◌++◌, take, drop, Some, None, Option, sym, refl, ap, ◌∙◌, inl, inr, arith}
 use Rattle.std.proofs.ByRecursion.{All-take, All-drop}
+use Rattle.std.proofs.Math.Seq.{take-append-add}
 use Rattle.std.proofs.lemmas.List.{length-take, take-take, take-append-drop, drop_at}
 use Rattle.std.proofs.lemmas.Bool.{cases_lt, le-leb, lt-leb}
 use Rattle.std.specs.List.{AllByRecursion}
@@ -11,14 +12,6 @@ use Rattle.logs.specs.ByteLogs.{fitting}
 use Rattle.logs.specs.RecordRuns.{entry_bytes, entry_fits, byte_cost, written, read_entry, entries_in}
 use Rattle.logs.proofs.ByteRuns.{nothing_in}
 use Rattle.logs.proofs.Runs.{size_entry, entries_more, entries_none, entry_back, entry_only, bytes_entry, bytes_written}
-
--- the front of two lists, where it ends in the second
-take_over : (u : ℕ) (xs ys : List ℕ) → length xs ≤ u → take u (xs ++ ys) ≡ xs ++ take (u - length xs) ys
-take_over u [] ys h = let e : u - 0 ≡ u = omega arith in rw e
-take_over zero (x ∷ xs) ys h = absurd (omega arith)
-take_over (suc u) (x ∷ xs) ys h =
-    let e : suc u - suc (length xs) ≡ u - length xs = omega arith in
-    rw e (ap (λ zs. x ∷ zs) (take_over u xs ys (omega arith)))
 
 -- a record that is cut is not read
 cut_none : (e : Entry) (rest : List ℕ) (u : ℕ) → entry_fits e ≡ true → Bytes rest → u < byte_cost e → (o : Option (Entry × ℕ)) → read_entry (take u (entry_bytes e ++ rest)) ≡ o → o ≡ None
@@ -46,9 +39,12 @@ entries_cut (e ∷ es) u fits = elim (cases_lt u (byte_cost e)) [
       let none = cut_none e (written es) u fits.0 (bytes_written es) short (read_entry (take u (entry_bytes e ++ written es))) refl in
       entries_none (take u (entry_bytes e ++ written es)) none ∙ rw (lt-leb (byte_cost e) u short)
   | inr long ↦
-      let rest = take (u - byte_cost e) (written es) in
-      let back = entry_back e rest fits.0 (All-take (λ b. b < 256) (u - byte_cost e) (written es) (bytes_written es)) in
-      rw (take_over u (entry_bytes e) (written es) long, le-leb (byte_cost e) u long)
+      let k = u - byte_cost e in
+      let rest = take k (written es) in
+      let split : byte_cost e + k ≡ u = omega arith in
+      let front : take u (entry_bytes e ++ written es) ≡ entry_bytes e ++ rest = rw split at (take-append-add (entry_bytes e) (written es) k) in
+      let back = entry_back e rest fits.0 (All-take (λ b. b < 256) k (written es) (bytes_written es)) in
+      rw (front, le-leb (byte_cost e) u long)
       (entries_more (entry_bytes e ++ rest) e (byte_cost e) back
-      ∙ rw (drop_at (entry_bytes e) rest (byte_cost e) refl) (ap (λ xs. e ∷ xs) (entries_cut es (u - byte_cost e) fits.1)))
+      ∙ rw (drop_at (entry_bytes e) rest (byte_cost e) refl) (ap (λ xs. e ∷ xs) (entries_cut es k fits.1)))
 ]

@@ -1,8 +1,6 @@
 mod Appending
 mod ByteRuns
 mod Cutting
-mod EntryLists
-mod Longest
-mod Overwrites
+pub mod EntrySteps
 pub mod Runs
 mod Seeking

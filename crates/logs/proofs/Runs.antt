@@ -1,7 +1,7 @@
 -- The run of records at the front of bytes: one record more, and its end.
-use Rattle.std.proofs.Common.{◌≡◌, ℕ, zero, suc, ◌+◌, ◌-◌, ◌<◌, ◌≤◌, true, List, [], ◌∷◌, ◌++◌, length, take, drop, Some, None, Option, sym, refl, ap, ◌∙◌, subst, arith}
+use Rattle.std.proofs.Common.{◌≡◌, ℕ, zero, suc, ◌+◌, ◌-◌, ◌<◌, ◌≤◌, true, List, [], ◌∷◌, ◌++◌, length, map, take, drop, Some, None, Option, sym, refl, ap, ◌∙◌, subst, arith}
 use Rattle.std.proofs.ByRecursion.{All-drop}
-use Rattle.std.proofs.lemmas.List.{length-drop, append_assoc, drop_at, drop-drop, take_rest}
+use Rattle.std.proofs.lemmas.List.{length-drop, length-take, append_assoc, drop_at, drop-drop}
 use Rattle.std.specs.List.{AllByRecursion}
 use Rattle.lines.specs.Bytes.{Bytes}
 use Rattle.records.specs.declared.commands.Command.{Command as Changes}
@@ -13,26 +13,37 @@ use Rattle.records.proofs.Framed.{found, other_kind, one_reading, bytes-append, 
 use Rattle.records.proofs.OneNumber.{mark-lawful}
 use Rattle.logs.specs.declared.entries.Entry.{Entry}
 use Rattle.logs.specs.declared.entries.Entry.TheVariants.{Command, Mark}
+use Rattle.logs.specs.ByteLaws.{cost_least, length_written}
 use Rattle.logs.specs.Logs.{spent}
 use Rattle.logs.specs.RecordRuns.{entry_bytes, entry_fits, byte_cost, written, or_mark, read_entry, entries_within, entries_in, LongestRun}
+use Rattle.logs.specs.Scans.{with_costs}
 
-entry_size : (bs : List ℕ) (c : Option (Changes × ℕ)) (m : Option (ℕ × ℕ)) (e : Entry) (n : ℕ) → read command_record bs ≡ c → read mark_record bs ≡ m → or_mark c m ≡ Some (e, n)
-    → (4 ≤ n) × (n ≤ length bs)
-entry_size bs None None e n rc rm h = let z : ◌≡◌ {A = ℕ} 0 1 = cc in absurd (omega arith)
-entry_size bs None (Some m) e n rc rm h =
+-- What was read is as long as its record, and is the only writing of its entry.
+record Reading (bs : List ℕ) (e : Entry) (n : ℕ) : Type 0 where
+  least : 4 ≤ n
+  most : n ≤ length bs
+  only : Bytes bs → (entry_fits e ≡ true) × (n ≡ byte_cost e) × (take n bs ≡ entry_bytes e)
+
+reading : (bs : List ℕ) (c : Option (Changes × ℕ)) (m : Option (ℕ × ℕ)) (e : Entry) (n : ℕ) → read command_record bs ≡ c → read mark_record bs ≡ m → or_mark c m ≡ Some (e, n) → Reading bs e n
+reading bs None None e n rc rm h = let z : ◌≡◌ {A = ℕ} 0 1 = cc in absurd (omega arith)
+reading bs None (Some m) e n rc rm h =
     let same : ◌≡◌ {A = Entry × ℕ} (Mark m.0, m.1) (e, n) = cc in
     let f = found mark_record bs m.0 m.1 rm in
-    let size : m.1 ≡ n = ap (λ p. p.1) same in
-    (omega arith, omega arith)
-entry_size bs (Some c) m e n rc rm h =
+    rw (← ap (λ p. p.0) same, ← ap (λ p. p.1) same) (record { least = f.0; most = f.1; only = λ typed. (one_reading mark_record bs mark-lawful typed (read mark_record bs) refl).only m.0 m.1 rm })
+reading bs (Some c) m e n rc rm h =
     let same : ◌≡◌ {A = Entry × ℕ} (Command c.0, c.1) (e, n) = cc in
     let f = found command_record bs c.0 c.1 rc in
-    let size : c.1 ≡ n = ap (λ p. p.1) same in
-    (omega arith, omega arith)
+    rw (← ap (λ p. p.0) same, ← ap (λ p. p.1) same) (record { least = f.0; most = f.1; only = λ typed. (one_reading command_record bs command-lawful typed (read command_record bs) refl).only c.0 c.1 rc })
+
+was_read : (bs : List ℕ) (e : Entry) (n : ℕ) → read_entry bs ≡ Some (e, n) → Reading bs e n
+unfolding read_entry
+was_read bs e n h = reading bs (read command_record bs) (read mark_record bs) e n refl refl h
 
 pub size_entry : (bs : List ℕ) (e : Entry) (n : ℕ) → read_entry bs ≡ Some (e, n) → (4 ≤ n) × (n ≤ length bs)
-unfolding read_entry
-size_entry bs e n h = entry_size bs (read command_record bs) (read mark_record bs) e n refl refl h
+size_entry bs e n h = ((was_read bs e n h).least, (was_read bs e n h).most)
+
+pub entry_only : (bs : List ℕ) (e : Entry) (n : ℕ) → Bytes bs → read_entry bs ≡ Some (e, n) → (entry_fits e ≡ true) × (n ≡ byte_cost e) × (take n bs ≡ entry_bytes e)
+entry_only bs e n typed h = (was_read bs e n h).only typed
 
 -- the next entry, or none
 next : (k : ℕ) (bs : List ℕ) (o : Option (Entry × ℕ)) → read_entry bs ≡ o
@@ -88,23 +99,6 @@ pub entry_back : (e : Entry) (rest : List ℕ) → entry_fits e ≡ true → Byt
 entry_back (Command c) rest fits typed = command_back c rest fits typed
 entry_back (Mark point) rest fits typed = mark_back point rest fits typed
 
--- what is read is the only writing of an entry
-only_entry : (bs : List ℕ) (c : Option (Changes × ℕ)) (m : Option (ℕ × ℕ)) (e : Entry) (n : ℕ) → Bytes bs → read command_record bs ≡ c → read mark_record bs ≡ m → or_mark c m ≡ Some (e, n)
-    → (entry_fits e ≡ true) × (n ≡ byte_cost e) × (take n bs ≡ entry_bytes e)
-only_entry bs None None e n typed rc rm h = let z : ◌≡◌ {A = ℕ} 0 1 = cc in absurd (omega arith)
-only_entry bs None (Some m) e n typed rc rm h =
-    let same : ◌≡◌ {A = Entry × ℕ} (Mark m.0, m.1) (e, n) = cc in
-    let only = (one_reading mark_record bs mark-lawful typed (read mark_record bs) refl).only m.0 m.1 rm in
-    rw (← ap (λ p. p.0) same, ← ap (λ p. p.1) same) only
-only_entry bs (Some c) m e n typed rc rm h =
-    let same : ◌≡◌ {A = Entry × ℕ} (Command c.0, c.1) (e, n) = cc in
-    let only = (one_reading command_record bs command-lawful typed (read command_record bs) refl).only c.0 c.1 rc in
-    rw (← ap (λ p. p.0) same, ← ap (λ p. p.1) same) only
-
-pub entry_only : (bs : List ℕ) (e : Entry) (n : ℕ) → Bytes bs → read_entry bs ≡ Some (e, n) → (entry_fits e ≡ true) × (n ≡ byte_cost e) × (take n bs ≡ entry_bytes e)
-unfolding read_entry
-entry_only bs e n typed h = only_entry bs (read command_record bs) (read mark_record bs) e n typed refl refl h
-
 pub bytes_entry : (e : Entry) → Bytes (entry_bytes e)
 bytes_entry (Command c) = bytes-framed 4 (command_record.body c) (command-lawful.bytes c)
 bytes_entry (Mark point) = bytes-framed 5 (mark_record.body point) (mark-lawful.bytes point)
@@ -145,32 +139,25 @@ run_within (suc k) bs h typed (Some p) e =
 pub run : (bs : List ℕ) → Bytes bs → LongestRun bs (entries_in bs)
 run bs typed = run_within (length bs) bs (omega arith) typed (read_entry bs) refl
 
--- what a pass over bytes finds at its place
-pub record Step (bs : List ℕ) (at : ℕ) (p : Entry × ℕ) : Type 0 where
-  pub least : 4 ≤ p.1
-  pub most : at + p.1 ≤ length bs
-  pub cost : p.1 ≡ byte_cost p.0
-  pub entries : entries_in (drop at bs) ≡ p.0 ∷ entries_in (drop (at + p.1) bs)
+-- the first record and its length, and those behind it
+pub next_record : (bs : List ℕ) (e : Entry) (n : ℕ) → n ≡ byte_cost e → Some (e, n) ≡ read_entry bs → with_costs (entries_in bs) ≡ (e, n) ∷ with_costs (entries_in (drop n bs))
+next_record bs e n cost h = rw (entries_more bs e n (sym h)) (ap (λ k. (e, k) ∷ with_costs (entries_in (drop n bs))) (sym cost))
 
-pub step : (bs : List ℕ) (at : ℕ) (p : Entry × ℕ) → Bytes bs → at ≤ length bs → Some p ≡ read_entry (take (length bs - at) (drop at bs)) → Step bs at p
-step bs at p typed inside h =
-    let rest = drop at bs in
-    let here : read_entry rest ≡ Some p = rw (take_rest bs at) at (sym h) in
-    let size = size_entry rest p.0 p.1 here in
-    let long : length rest ≡ length bs - at = length-drop at bs in
-    record {
-      least = size.0;
-      most = omega (arith, size.1);
-      cost = (entry_only rest p.0 p.1 (All-drop (λ b. b < 256) at bs typed) here).1;
-      entries = entries_more rest p.0 p.1 here ∙ rw (drop-drop p.1 at bs);
-    }
+-- no more records than bytes
+pub entries_few : (es : List Entry) → length es ≤ spent byte_cost es
+entries_few [] = omega arith
+entries_few (e ∷ es) = omega (arith, cost_least e, entries_few es)
 
-pub step_none : (bs : List ℕ) (at : ℕ) → None ≡ read_entry (take (length bs - at) (drop at bs)) → entries_in (drop at bs) ≡ []
-step_none bs at h = entries_none (drop at bs) (rw (take_rest bs at) at (sym h))
+pub run_short : (bs : List ℕ) (es : List Entry) → LongestRun bs es → (length es ≤ spent byte_cost es) × (spent byte_cost es ≤ length bs)
+run_short bs es found = (entries_few es, omega (arith, length-take (spent byte_cost es) bs, ap length found.front, length_written es))
 
--- past one record, to the next
-pub skip : (bs : List ℕ) (at : ℕ) (p : Entry × ℕ) → at ≤ length bs → Some p ≡ read_entry (drop at bs)
-    → (at + p.1 ≤ length bs) × (entries_in (drop at bs) ≡ p.0 ∷ entries_in (drop (at + p.1) bs))
-skip bs at p inside h =
-    let size = size_entry (drop at bs) p.0 p.1 (sym h) in
-    (omega (arith, size.1, length-drop at bs), entries_more (drop at bs) p.0 p.1 (sym h) ∙ rw (drop-drop p.1 at bs))
+first_ones : (es : List Entry) → map (λ p. p.0) (with_costs es) ≡ es
+first_ones [] = refl
+first_ones (e ∷ es) = ap (λ xs. e ∷ xs) (first_ones es)
+
+-- one record passed
+pub one_less : (es fs : List Entry) (e : Entry) (n : ℕ) → with_costs es ≡ (e, n) ∷ with_costs fs → (length es ≡ suc (length fs)) × (spent byte_cost es ≡ n + spent byte_cost fs)
+one_less es fs e n h =
+    let same : es ≡ e ∷ fs = sym (first_ones es) ∙ ap (map (λ p. p.0)) h ∙ ap (λ xs. e ∷ xs) (first_ones fs) in
+    let cost : byte_cost e ≡ n = let k = rw same at h in let p : ◌≡◌ {A = Entry × ℕ} (e, byte_cost e) (e, n) = cc in ap (λ q. q.1) p in
+    (ap length same, ap (spent byte_cost) same ∙ omega arith)

@@ -1,24 +1,32 @@
--- The entry at a place, sought record by record.
-use Rattle.std.proofs.Common.{◌≡◌, ℕ, suc, ◌+◌, ◌-◌, ◌<◌, ◌≤◌, List, length, drop, Some, None, sym, ◌∙◌, arith}
+-- The entry at a place in a log's records.
+use Rattle.std.proofs.Common.{◌≡◌, ℕ, ◌≤◌, List, length, Some, None, Option, refl, ◌∙◌, sym}
+use Rattle.std.proofs.lemmas.Iterator.Consumers.{nth_from_yields_List, YieldsList-from_first}
+use Rattle.std.proofs.lemmas.Iterator.Adapters.{option_map_id}
+use Rattle.std.proofs.lemmas.Option.{slice_get-map}
+use Rattle.std.specs.Iterator.{YieldsFirst, YieldsThen}
 use Rattle.std.specs.List.{slice_get}
+use Rattle.std.specs.Option.{MatchOption, option_map}
 use Rattle.logs.specs.declared.entries.Entry.{Entry}
-use Rattle.logs.specs.RecordRuns.{read_entry, entries_in}
-use Rattle.logs.proofs.Runs.{skip, entries_none}
+use Rattle.logs.specs.declared.scans.Records.{Records}
+use Rattle.logs.specs.RecordRuns.{byte_cost, entries_in}
+use Rattle.logs.specs.Scans.{records_left, with_costs}
 
-module _ (bs : List ℕ) (at i k : ℕ) (so_far : slice_get (entries_in (drop at bs)) (i - k) ≡ slice_get (entries_in bs) i) where
-  -- one record passed
-  pub seek_more : (p : Entry × ℕ) → k < i → at ≤ length bs → Some p ≡ read_entry (drop at bs)
-      → slice_get (entries_in (drop (at + p.1) bs)) (i - (k + 1)) ≡ slice_get (entries_in bs) i
-  seek_more p h inside e =
-      let next : i - k ≡ suc (i - (k + 1)) = omega arith in
-      sym (rw ((skip bs at p inside e).1, next)) ∙ so_far
+abbrev pub with_cost : Entry → Entry × ℕ
+with_cost e = (e, byte_cost e)
 
-  -- no record is left
-  pub seek_none : None ≡ read_entry (drop at bs) → None ≡ slice_get (entries_in bs) i
-  seek_none e = sym (rw (entries_none (drop at bs) (sym e))) ∙ so_far
+abbrev pub entry_of : Entry × ℕ → Entry
+entry_of p = p.0
 
-  -- it is the next one
-  pub seek_found : (p : Entry × ℕ) → i ≤ k → at ≤ length bs → Some p ≡ read_entry (drop at bs) → Some p.0 ≡ slice_get (entries_in bs) i
-  seek_found p h inside e =
-      let next : i - k ≡ 0 = omega arith in
-      sym (rw ((skip bs at p inside e).1, next)) ∙ so_far
+same_entry : (o : Option Entry) → option_map entry_of (option_map with_cost o) ≡ o
+same_entry None = refl
+same_entry (Some e) = refl
+
+-- what `nth` gives
+pub nth_entry : (r : Option (Entry × ℕ)) (s t : Records) (i : ℕ)
+    → ((xs : List (Entry × ℕ)) × YieldsThen (YieldsFirst records_left) s xs r t × MatchOption r (length xs ≤ i) (λ _. length xs ≡ i))
+    → option_map entry_of r ≡ slice_get (entries_in s.0.now) i
+nth_entry r s t i ran =
+    let es = entries_in s.0.now in
+    let left = nth_from_yields_List {v = λ x. x} r t i ran (YieldsList-from_first (λ x. x) records_left (records_left s) refl) in
+    let there : r ≡ slice_get (with_costs es) i = sym (option_map_id r) ∙ left in
+    rw (there, slice_get-map with_cost es i) (same_entry (slice_get es i))

@@ -5,17 +5,13 @@
 --   opened m u        the log over m of which the first u bytes may hold records; u is cut to the capacity
 --   fitting u es      the entries of es whose records lie wholly in the first u bytes of them all
 --   checked m u       how many entries those u bytes hold, or the offset of the first record that is cut or unlawful
-use Rattle.std.specs.Prelude.{ℕ, ◌+◌, ◌-◌, min, cond, List, [], ◌∷◌, ◌++◌, length, take, drop, Ok, Err, Result, ◌==◌, nat_le}
+use Rattle.std.specs.Prelude.{ℕ, ◌-◌, min, cond, List, [], ◌∷◌, length, take, Ok, Err, Result, ◌==◌, nat_le}
 use Rattle.logs.specs.declared.byte_log.ByteLog.{ByteLog}
 use Rattle.logs.specs.declared.entries.Entry.{Entry}
 use Rattle.logs.specs.declared.faults.LogFault.{LogFault}
 use Rattle.logs.specs.declared.faults.LogFault.TheVariants.{Unlawful}
 use Rattle.logs.specs.Logs.{Log, spent}
 use Rattle.logs.specs.RecordRuns.{byte_cost, entries_in}
-
--- memory m with the bytes bs from the offset at on
-abbrev pub overwritten : List ℕ → ℕ → List ℕ → List ℕ
-overwritten m at bs = take at m ++ (bs ++ drop (at + length bs) m)
 
 abbrev pub byte_capacity : List ℕ → ℕ
 byte_capacity m = min (length m) 65536

@@ -4,3 +4,4 @@ pub mod EntryLogs
 pub mod Faults
 pub mod Logs
 pub mod RecordRuns
+pub mod Scans

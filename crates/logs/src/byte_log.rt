@@ -5,6 +5,7 @@ ghost use Rattle.logs.specs.RecordRuns.{entries_in, written};
 mod calls;
 
 // The first `used` bytes of the memory are the log's: `count` whole records. It uses 65,536 bytes at most; what lies beyond is never touched.
+// A log allocates nothing: the memory is lent, so how much of it is used stands beside it.
 #[derive(Drop)]
 pub struct ByteLog<'a> {
     memory: &'a mut [u8],

@@ -6,6 +6,7 @@ use crate::entries::Entry;
 mod calls;
 
 // The first `count` entries of the memory are the log's. It uses 4,096 at most; what lies beyond is never touched.
+// A log allocates nothing: the memory is lent, so how much of it is used stands beside it.
 #[derive(Drop)]
 pub struct EntryLog<'a> {
     memory: &'a mut [Entry],

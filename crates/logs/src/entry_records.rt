@@ -1,10 +1,11 @@
 // Entries as records.
-ghost use Rattle.std.specs.Prelude.{◌≡◌, true};
+ghost use Rattle.std.specs.Prelude.{◌≡◌, ◌≤◌, true, length, IfSome};
 ghost use Rattle.lines.specs.Bytes.{put, room};
-ghost use Rattle.logs.specs.RecordRuns.{entry_bytes, entry_fits, read_entry};
+ghost use Rattle.logs.specs.RecordRuns.{byte_cost, entry_bytes, entry_fits, read_entry};
 
 use crate::entries::Entry;
-use records::entries::{read_command, read_mark, write_command, write_mark};
+use records::entries::{CommandRecord, MarkRecord};
+use records::frames::{read_record, write_record};
 
 // Writes the entry's record at the front of `out` and answers its length; none, with nothing written, where it does not fit.
 pub fn write_entry(out: &mut [u8], entry: Entry) -> Option<usize>
@@ -13,18 +14,21 @@ pub fn write_entry(out: &mut [u8], entry: Entry) -> Option<usize>
     ensures fits { entry_fits entry ≡ true }
 {
     match entry {
-        Entry::Command(command) => write_command(out, &command),
-        Entry::Mark(point) => write_mark(out, point),
+        Entry::Command(command) => write_record::<CommandRecord>(out, &command),
+        Entry::Mark(point) => write_record::<MarkRecord>(out, &point),
     }
 }
 
 // The entry whose record `bytes` begin with, and the record's length.
+#[tactic(auto, unfolding(crate::specs::RecordRuns::read_entry))]
 pub fn read_entry(bytes: &[u8]) -> Option<(Entry, usize)>
-    ensures { result ≡ read_entry bytes.now }
+    ensures answer { result ≡ read_entry bytes.now }
+    ensures len { IfSome result (λ p. p.1 ≡ byte_cost p.0) }
+    ensures inside { IfSome result (λ p. p.1 ≤ length bytes.now) }
 {
-    if let Some(found) = read_command(bytes) {
-        return Some((Entry::Command(found.0), found.1));
+    if let Some((command, len)) = read_record::<CommandRecord>(bytes) {
+        return Some((Entry::Command(command), len));
     }
-    let (point, len) = read_mark(bytes)?;
+    let (point, len) = read_record::<MarkRecord>(bytes)?;
     Some((Entry::Mark(point), len))
 }

@@ -12,21 +12,13 @@ pub enum LogFault {
     Unlawful(usize),
 }
 
-impl LogFault {
-    pub fn refusal(self) -> Refusal
-        ensures { result ≡ refusal self }
-    {
-        match self {
-            LogFault::Full(entries) => Refusal {
-                number: 26,
-                layer: Layer::Log,
-                place: entries,
-            },
-            LogFault::Unlawful(offset) => Refusal {
-                number: 6,
-                layer: Layer::Log,
-                place: offset,
-            },
+impl From<LogFault> for Refusal {
+    ghost from_gives = { λ fault r. r ≡ refusal fault };
+
+    fn from(fault: LogFault) -> Refusal {
+        match fault {
+            LogFault::Full(entries) => Refusal::new(26, Layer::Log, entries),
+            LogFault::Unlawful(offset) => Refusal::new(6, Layer::Log, offset),
         }
     }
 }

@@ -26,42 +26,15 @@ mod tests {
         command
     }
 
-    // Whether an entry is there and is that command.
-    fn is_command(entry: Option<Entry>, wanted: Command) -> bool {
-        let Some(entry) = entry else {
-            return false;
-        };
-        match entry {
-            Entry::Command(command) => command == wanted,
-            Entry::Mark(_) => false,
-        }
-    }
-
-    fn is_mark(entry: Option<Entry>, wanted: u32) -> bool {
-        let Some(entry) = entry else {
-            return false;
-        };
-        match entry {
-            Entry::Command(_) => false,
-            Entry::Mark(point) => point == wanted,
-        }
-    }
-
     #[test]
-    fn round_trips(rt: HostRuntime) -> Result<(), Fail> {
+    fn round_trips(rt: HostRuntime) {
         for changes in 0u8..5 {
             let mut out = [7u8; 40];
             let entry = Entry::Command(command(changes));
-            assert_eq!(rt;
-                write_entry(&mut out, entry),
-                Some(4 + 7 * usize::from(changes))
-            );
-            let Some(found) = read_entry(&out) else {
-                return Err(Fail::new("not read"));
-            };
-            assert!(rt; is_command(Some(found.0), command(changes)));
+            let len = 4 + 7 * usize::from(changes);
+            assert_eq!(rt; write_entry(&mut out, entry), Some(len));
+            assert!(rt; read_entry(&out) == Some((entry, len)));
         }
-        Ok(())
     }
 
     #[test]
@@ -72,7 +45,7 @@ mod tests {
         assert!(rt; log.append(Entry::Mark(1)).is_ok());
         assert!(rt; log.append(Entry::Command(command(4))).is_ok());
         assert!(rt; log.append(Entry::Mark(2)) == Err(LogFault::Full(2)));
-        assert!(rt; is_command(log.get(1), command(4)));
+        assert!(rt; log.get(1) == Some(Entry::Command(command(4))));
         assert!(rt; log.get(2).is_none());
         log.empty();
         assert_eq!(rt; log.count(), 0);
@@ -91,14 +64,10 @@ mod tests {
         assert!(rt; ByteLog::check(&short, 3) == Err(LogFault::Unlawful(0)));
     }
 
-    // Marks appended until one is refused.
+    // Appends marks until one is refused, and answers how many the log holds.
     fn filled<G: Log>(log: &mut G) -> usize {
-        for point in 0u32..70_000 {
-            if log.append(Entry::Mark(point)).is_err() {
-                return log.count();
-            }
-        }
-        0
+        let _ = (0u32..70_000).try_for_each(|point| log.append(Entry::Mark(point)));
+        log.count()
     }
 
     // Memory beyond what a log may use is left alone.
@@ -121,7 +90,7 @@ mod tests {
         assert!(rt; log.append(Entry::Mark(7)).is_ok());
         assert!(rt; log.append(Entry::Command(command(0))) == Err(LogFault::Full(2)));
         assert_eq!(rt; log.len(), 19);
-        assert!(rt; is_mark(log.get(1), 7));
+        assert!(rt; log.get(1) == Some(Entry::Mark(7)));
         assert!(rt; log.get(2).is_none());
         log.empty();
         assert_eq!(rt; log.count(), 0);
@@ -141,12 +110,10 @@ mod tests {
     fn cuts(rt: HostRuntime) {
         for u in 0usize..25 {
             let mut memory = command_and_mark();
-            let whole = if u < 11 {
-                0
-            } else if u < 19 {
-                1
-            } else {
-                2
+            let whole = match u {
+                0..11 => 0,
+                11..19 => 1,
+                _ => 2,
             };
             assert_eq!(rt; ByteLog::open(&mut memory, u).count(), whole);
             let wanted = match u {

@@ -6,12 +6,12 @@
 mod tests {
     use calc::backed::Calc;
     use keepers::faults::KeeperFault;
-    use keepers::given::Given;
     use keepers::rules::Rules;
     use keepers::stages::Stage;
     use keepers::traits::Keeper;
     use kinds::accounts::Account;
     use lines::changes::Change;
+    use lines::faults::Refusal;
     use lines::traits::Line;
     use ping_pong::shadowed::PingPong;
     use std::test::Fail;
@@ -20,48 +20,41 @@ mod tests {
     // When a command in seat 0 begins, changes line 0 and ends, in turns of the scene; and how it ends.
     #[derive(Clone, Copy)]
     struct Plan {
-        begin: u8,
-        change: u8,
-        end: u8,
+        begin: usize,
+        change: usize,
+        end: usize,
         commits: bool,
     }
 
-    // What a keeper answered in one turn of a scene: the numbers of its refusals, 0 where it accepted, the lines given out, and the lines as committed.
+    // What a call is answered: accepted, or the number of the refusal.
+    type Answer = Result<(), u8>;
+
+    // What a keeper answered in one turn of a scene, accepted too where the plan has no such call; the lines given out, each with whether it is named; and
+    // the lines as committed.
     #[derive(Clone, Copy, PartialEq, Eq)]
     struct Seen {
-        begun: u8,
-        changed: u8,
-        ended: u8,
-        moved: u8,
-        given: (i64, i64),
-        named: (bool, bool),
-        looks: (i64, i64),
+        begun: Answer,
+        changed: Answer,
+        ended: Answer,
+        moved: Answer,
+        given: [Option<(i64, bool)>; 2],
+        looks: [Option<i64>; 2],
     }
 
     fn account(balance: i64) -> Account {
         Account { balance, limit: 0 }
     }
 
-    fn number(answer: Result<(), KeeperFault>) -> u8 {
-        match answer {
-            Ok(()) => 0,
-            Err(fault) => fault.refusal().number,
-        }
+    fn number(answer: Result<(), KeeperFault>) -> Answer {
+        answer.map_err(|fault| Refusal::from(fault).number)
     }
 
-    fn balance(answer: Result<Account, KeeperFault>) -> i64 {
-        match answer {
-            Ok(account) => account.balance,
-            Err(_) => -1,
-        }
+    fn given<'a, K: Keeper<'a, Line = Account>>(keeper: &mut K) -> Option<(i64, bool)> {
+        keeper.give().map(|given| (given.line.balance, given.named))
     }
 
-    // A line given out, and whether it is named; -1 for none.
-    fn parts(given: Option<Given<Account>>) -> (i64, bool) {
-        match given {
-            Some(given) => (given.line.balance, given.named),
-            None => (-1, false),
-        }
+    fn balance<'a, K: Keeper<'a, Line = Account>>(keeper: &K, line: u16) -> Option<i64> {
+        keeper.look(line).ok().map(|account| account.balance)
     }
 
     fn add(line: u16, amount: u32) -> Change {
@@ -73,8 +66,8 @@ mod tests {
     }
 
     // A whole command on line 1, wherever every method allows one: it may not begin in Called.
-    fn pass_by<'a, K: Keeper<'a, Line = Account>>(keeper: &mut K, turn: u8) {
-        if keeper.stage().is(Stage::Called) {
+    fn pass_by<'a, K: Keeper<'a, Line = Account>>(keeper: &mut K, turn: usize) {
+        if keeper.stage() == Stage::Called {
             return;
         }
         let _ = keeper.begin(1);
@@ -86,60 +79,68 @@ mod tests {
         };
     }
 
-    fn end<'a, K: Keeper<'a, Line = Account>>(keeper: &mut K, commits: bool) -> u8 {
-        if commits {
-            number(keeper.commit(0))
+    // The second change of the line by one command is no first one.
+    fn change<'a, K: Keeper<'a, Line = Account>>(keeper: &mut K) -> Answer {
+        let first = keeper.change(0, add(0, 10));
+        let _ = keeper.change(0, add(0, 100));
+        number(first)
+    }
+
+    fn end<'a, K: Keeper<'a, Line = Account>>(keeper: &mut K, commits: bool) -> Answer {
+        number(if commits {
+            keeper.commit(0)
         } else {
-            number(keeper.abandon(0))
-        }
+            keeper.abandon(0)
+        })
+    }
+
+    fn step<'a, K: Keeper<'a, Line = Account>>(keeper: &mut K) -> Answer {
+        number(if keeper.stage() == Stage::Rest {
+            keeper.call()
+        } else {
+            keeper.turn()
+        })
     }
 
     // One turn: what the plan has for it, then a stage on, or as far as the keeper goes.
-    fn play<'a, K: Keeper<'a, Line = Account>>(keeper: &mut K, plan: Plan, turn: u8) -> Seen {
+    fn play<'a, K: Keeper<'a, Line = Account>>(keeper: &mut K, plan: Plan, turn: usize) -> Seen {
         pass_by(keeper, turn);
         let begun = if plan.begin == turn {
             number(keeper.begin(0))
         } else {
-            0
+            Ok(())
         };
-        let mut changed = 0;
-        if plan.change == turn {
-            // The second change of the line by one command is no first one.
-            changed = number(keeper.change(0, add(0, 10)));
-            let _ = keeper.change(0, add(0, 100));
-        }
+        let changed = if plan.change == turn {
+            change(keeper)
+        } else {
+            Ok(())
+        };
         let ended = if plan.end == turn {
             end(keeper, plan.commits)
         } else {
-            0
+            Ok(())
         };
-        let (first, second) = (parts(keeper.give()), parts(keeper.give()));
-        let moved = if keeper.stage().is(Stage::Rest) {
-            number(keeper.call())
-        } else {
-            number(keeper.turn())
-        };
+        let given = [given(keeper), given(keeper)];
+        let moved = step(keeper);
         Seen {
             begun,
             changed,
             ended,
             moved,
-            given: (first.0, second.0),
-            named: (first.1, second.1),
-            looks: (balance(keeper.look(0)), balance(keeper.look(1))),
+            given,
+            looks: [balance(keeper, 0), balance(keeper, 1)],
         }
     }
 
     const TURNS: usize = 16;
 
     const NOTHING: Seen = Seen {
-        begun: 0,
-        changed: 0,
-        ended: 0,
-        moved: 0,
-        given: (-1, -1),
-        named: (false, false),
-        looks: (0, 0),
+        begun: Ok(()),
+        changed: Ok(()),
+        ended: Ok(()),
+        moved: Ok(()),
+        given: [None; 2],
+        looks: [Some(0); 2],
     };
 
     fn check(holds: bool) -> Result<(), Fail> {
@@ -148,24 +149,6 @@ mod tests {
         } else {
             Err(Fail::new("the methods differ, or not from the point"))
         }
-    }
-
-    // Plays a plan, and sees that what is given out is what was committed at the point.
-    fn trace<'a, K: Keeper<'a, Line = Account>>(
-        keeper: &mut K,
-        plan: Plan,
-    ) -> Result<[Seen; TURNS], Fail> {
-        let mut all = [NOTHING; TURNS];
-        let mut point = (-1, -1);
-        for turn in 0..TURNS {
-            let seen = play(keeper, plan, turn as u8);
-            check(seen.given == (-1, -1) || seen.given == point)?;
-            if keeper.stage().is(Stage::Pointed) && seen.moved == 0 {
-                point = seen.looks;
-            }
-            all[turn] = seen;
-        }
-        Ok(all)
     }
 
     const OPENING: [Account; 2] = [
@@ -179,34 +162,38 @@ mod tests {
         },
     ];
 
-    fn by_calc(plan: Plan) -> Result<[Seen; TURNS], Fail> {
-        let mut memory = [Calc::blank(account(0)); 2];
-        trace(&mut Calc::open(&OPENING, &mut memory), plan)
-    }
-
-    fn by_zigzag(plan: Plan) -> Result<[Seen; TURNS], Fail> {
-        let mut memory = [Zigzag::blank(account(0)); 2];
-        trace(&mut Zigzag::open(&OPENING, &mut memory), plan)
-    }
-
-    fn by_ping_pong(plan: Plan) -> Result<[Seen; TURNS], Fail> {
-        let mut memory = [PingPong::blank(account(0)); 2];
-        trace(&mut PingPong::open(&OPENING, &mut memory), plan)
+    // Plays a plan by one method, and sees that what is given out is what was committed at the point.
+    fn trace<'a, K: Keeper<'a, Line = Account> + Drop>(
+        memory: &'a mut [K::Cell],
+        plan: Plan,
+    ) -> Result<[Seen; TURNS], Fail> {
+        let mut keeper = K::open(&OPENING, memory);
+        let mut all = [NOTHING; TURNS];
+        let mut point = [None; 2];
+        for (turn, slot) in all.iter_mut().enumerate() {
+            let seen = play(&mut keeper, plan, turn);
+            let lines = seen.given.map(|given| given.map(|(line, _named)| line));
+            check(lines == [None; 2] || lines == point)?;
+            if keeper.stage() == Stage::Pointed && seen.moved == Ok(()) {
+                point = seen.looks;
+            }
+            *slot = seen;
+        }
+        Ok(all)
     }
 
     // Once a quiet keeper has refused what CALC allows, only the quiet ones are compared.
     fn agree(plan: Plan) -> Result<(), Fail> {
-        let calc = by_calc(plan)?;
-        let zigzag = by_zigzag(plan)?;
-        let ping_pong = by_ping_pong(plan)?;
-        for turn in 0..TURNS {
-            check(zigzag[turn] == ping_pong[turn])?;
-        }
-        for turn in 0..TURNS {
-            if calc[turn].begun != zigzag[turn].begun {
-                return check(zigzag[turn].begun == 25);
+        let blank = account(0);
+        let calc = trace::<Calc<Account>>(&mut [Calc::blank(blank); 2], plan)?;
+        let zigzag = trace::<Zigzag<Account>>(&mut [Zigzag::blank(blank); 2], plan)?;
+        let ping_pong = trace::<PingPong<Account>>(&mut [PingPong::blank(blank); 2], plan)?;
+        check(zigzag == ping_pong)?;
+        for (calc, zigzag) in calc.iter().zip(zigzag.iter()) {
+            if calc.begun != zigzag.begun {
+                return check(zigzag.begun == Err(25));
             }
-            check(calc[turn] == zigzag[turn])?;
+            check(calc == zigzag)?;
         }
         Ok(())
     }
@@ -214,23 +201,17 @@ mod tests {
     // Begins in every stage of a round and on, changes then or in one of the next stages, ends then or in one of the next.
     #[test]
     fn side_by_side() -> Result<(), Fail> {
-        for begin in 0u8..8 {
-            for wait in 0u8..6 {
-                for work in 0u8..6 {
-                    let change = begin + wait;
-                    let end = change + work;
-                    agree(Plan {
-                        begin,
-                        change,
-                        end,
-                        commits: true,
-                    })?;
-                    agree(Plan {
-                        begin,
-                        change,
-                        end,
-                        commits: false,
-                    })?;
+        for begin in 0..8 {
+            for change in begin..begin + 6 {
+                for end in change..change + 6 {
+                    for commits in [true, false] {
+                        agree(Plan {
+                            begin,
+                            change,
+                            end,
+                            commits,
+                        })?;
+                    }
                 }
             }
         }

@@ -5,8 +5,8 @@ ghost use Rattle.ping_pong.specs.Laws.{ping_pong-lawful};
 
 use keepers::clocks::Clock;
 use keepers::given::Given;
-use keepers::named_bits::NamedBits;
-use keepers::rules::Rules;
+use keepers::pairs::Two;
+use keepers::rules::{MOST_LINES, Rules};
 use keepers::stages::Stage;
 use lines::traits::Line;
 use store::stores::Store;
@@ -14,16 +14,13 @@ use store::stores::Store;
 // A keeper by this method.
 pub type PingPong<'a, L> = Store<'a, Shadowed<L>>;
 
-const MOST_LINES: usize = 1024;
-
 // The line with every change made; a shadow for each parity of the number of points passed, and their marks; the mark that stood before the holder's first
 // change; and the line as it was when it was last given out.
 #[derive(Clone, Copy)]
 pub struct Shadowed<L> {
     pub live: L,
-    pub even: L,
-    pub odd: L,
-    pub marks: NamedBits,
+    pub shadows: Two<L>,
+    pub marks: Two<bool>,
     pub was: bool,
     pub base: L,
 }
@@ -33,26 +30,24 @@ impl<L: Line> Shadowed<L> {
     fn put(self, odd: bool, line: L, mark: bool, was: bool) -> Shadowed<L>
         ensures { result ≡ put self odd line mark was }
     {
-        let mut cell = self;
-        cell.live = line;
-        if odd {
-            cell.odd = line;
-        } else {
-            cell.even = line;
+        Shadowed {
+            live: line,
+            shadows: self.shadows.with(odd, line),
+            marks: self.marks.with(odd, mark),
+            was,
+            ..self
         }
-        cell.marks = self.marks.with(odd, mark);
-        cell.was = was;
-        cell
     }
 
     // The line as it was at the last point, while that is still to be given out.
     fn origin(self, clock: Clock) -> L
         ensures { result ≡ origin clock self }
     {
-        if !self.marks.get(!clock.odd) {
-            return self.base;
+        if self.marks.get(!clock.odd) {
+            self.shadows.get(!clock.odd)
+        } else {
+            self.base
         }
-        if clock.odd { self.even } else { self.odd }
     }
 }
 
@@ -80,9 +75,8 @@ impl<L: Line> Rules for Shadowed<L> {
     fn fresh(line: L) -> Shadowed<L> {
         Shadowed {
             live: line,
-            even: line,
-            odd: line,
-            marks: NamedBits::new(),
+            shadows: Two::both(line),
+            marks: Two::both(false),
             was: false,
             base: line,
         }
@@ -112,10 +106,11 @@ impl<L: Line> Rules for Shadowed<L> {
     }
 
     fn given(self, clock: Clock) -> Shadowed<L> {
-        let mut cell = self;
-        cell.base = self.origin(clock);
-        cell.marks = self.marks.with(!clock.odd, false);
-        cell
+        Shadowed {
+            marks: self.marks.with(!clock.odd, false),
+            base: self.origin(clock),
+            ..self
+        }
     }
 
     fn pointed(self) -> Shadowed<L> {

@@ -10,7 +10,8 @@ use lines::changes::Change;
 mod bodies;
 mod making;
 
-// The slots past `len` hold the zero change, so that equal commands are equal values.
+// An array with its length and no vector, since a command is copied whole from a seat into a log and nothing is allocated. The slots past `len` hold the zero change, so that
+// equal commands are equal values.
 #[derive(Clone, Copy)]
 pub struct Command {
     changes: [Change; 4],
@@ -24,7 +25,7 @@ pub struct Command {
 #[derive(Clone, Copy, PartialEq, Eq)]
 pub struct CommandFull;
 
-// By hand, since a derived `==` would not promise that it decides whether two commands are one value.
+// By hand, since a derived `==` does not promise that it decides whether two commands are one value; and so it is with `Eq`.
 impl PartialEq for Command {
     ghost eq = { eq_of_both (on (λ c. c.len) nat_eq) (on (λ c. c.changes) (pointwise same_change)) };
 

@@ -70,7 +70,7 @@ pub fn write_record<R: Record>(out: &mut [u8], value: &R::Value) -> Option<usize
     if out.len() < len {
         return None;
     }
-    // There is room for both parts.
+    // There is room for both parts; and no record is longer than 32 bytes, so that its length fits.
     let _ = write_two(len as u16, u16::from(R::kind()), out);
     let _ = R::write_body(value, &mut out[4..]);
     Some(len)

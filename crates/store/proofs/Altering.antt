@@ -1,5 +1,5 @@
 -- One element of a list altered.
-use Rattle.std.proofs.Common.{◌≡◌, ℕ, zero, suc, ◌<◌, ◌≤◌, List, [], ◌∷◌, length, set, Some, None, refl, ap, arith}
+use Rattle.std.proofs.Common.{◌≡◌, ℕ, zero, suc, ◌≤◌, List, [], ◌∷◌, length, set, Some, None, refl, ap, arith}
 use Rattle.std.specs.List.{slice_get}
 use Rattle.store.specs.CellRules.{alter}
 
@@ -13,12 +13,6 @@ module _ {X : Type 0} (f : X → X) where
   alter_past [] i e = refl
   alter_past (y ∷ xs) zero e = let z : ◌≡◌ {A = ℕ} 0 1 = cc in absurd (omega arith)
   alter_past (y ∷ xs) (suc i) e = ap (λ zs. y ∷ zs) (alter_past xs i e)
-
--- an element that is there stands below the length
-pub nth_below : {X : Type 0} (xs : List X) (i : ℕ) (x : X) → slice_get xs i ≡ Some x → i < length xs
-nth_below [] i x e = let z : ◌≡◌ {A = ℕ} 0 1 = cc in absurd (omega arith)
-nth_below (y ∷ xs) zero x e = omega arith
-nth_below (y ∷ xs) (suc i) x e = omega (arith, nth_below xs i x e)
 
 pub nth_none : {X : Type 0} (xs : List X) (i : ℕ) → slice_get xs i ≡ None → length xs ≤ i
 nth_none [] i e = omega arith

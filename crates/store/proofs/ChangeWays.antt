@@ -8,6 +8,7 @@ use Rattle.lines.specs.declared.faults.LineFault.TheVariants.{NoSuchLine}
 use Rattle.lines.specs.Changing.{Outcome}
 use Rattle.lines.specs.Numbered.{change}
 use Rattle.records.specs.Commands.{pushed}
+use Rattle.std.proofs.lemmas.Option.{slice_get_within}
 use Rattle.keepers.specs.declared.faults.KeeperFault.{KeeperFault}
 use Rattle.keepers.specs.declared.faults.KeeperFault.TheVariants.{Held, FifthChange, Line}
 use Rattle.keepers.specs.Calls.{judged}
@@ -17,7 +18,7 @@ use Rattle.store.specs.declared.cells.Cell.{Cell}
 use Rattle.store.specs.CellRules.{elsewhere, changed_cell}
 use Rattle.store.specs.States.{State}
 use Rattle.store.specs.Steps.{hand_at, Seated, cell_of, changed, changed_state, with_cells}
-use Rattle.store.proofs.Altering.{alter-set, nth_below, nth_none}
+use Rattle.store.proofs.Altering.{alter-set, nth_none}
 
 -- what finding a cell says of it
 pub found_cell : {L O : Type 0} (i : ℕ) (x : Cell L O) (o : Option (Cell L O)) → Ok x ≡ cell_of i o → o ≡ Some x
@@ -41,7 +42,7 @@ module _ {L O : Type 0} (m : Method L O) (f : L → ℕ → ℕ → Outcome L) (
 
   module _ (x : Cell L O) (there : slice_get t.cells c.line ≡ Some x) where
     inside : leb (length t.cells) c.line ≡ false
-    inside = lt-leb (length t.cells) c.line (nth_below t.cells c.line x there)
+    inside = lt-leb (length t.cells) c.line (slice_get_within t.cells c.line x there)
 
     fewer : ltb (length h.changes) 4 ≡ true → leb 4 (length h.changes) ≡ false
     fewer room = lt-leb 4 (length h.changes) (ltb-true (length h.changes) 4 room)

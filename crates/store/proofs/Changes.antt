@@ -3,12 +3,13 @@ use Rattle.std.proofs.Common.{◌≡◌, ℕ, ◌<◌, Bool, true, false, cond, 
 use Rattle.std.specs.Option.{option_map}
 use Rattle.std.specs.List.{slice_get}
 use Rattle.std.proofs.lemmas.List.{length-map, length-set, append-nil}
-use Rattle.std.proofs.lemmas.Bool.{eq-eqb, eqb-true, cases_Bool, leb-false, not-false, le-leb}
+use Rattle.std.proofs.lemmas.Bool.{eq-eqb, eqb-true, cases_Bool, leb-false, not-false, le-leb, or_right}
 use Rattle.lines.specs.declared.changes.Change.{Change}
 use Rattle.lines.specs.declared.faults.LineFault.{LineFault}
 use Rattle.lines.specs.declared.faults.LineFault.TheVariants.{NoSuchLine}
 use Rattle.lines.specs.Changing.{Outcome}
 use Rattle.lines.specs.Numbered.{change, make}
+use Rattle.std.proofs.lemmas.Option.{slice_get-map, slice_get_within}
 use Rattle.keepers.specs.declared.clocks.Clock.{Clock}
 use Rattle.keepers.specs.declared.faults.KeeperFault.{KeeperFault}
 use Rattle.keepers.specs.declared.faults.KeeperFault.TheVariants.{NoSuchSeat, SeatNotOpen, Held, FifthChange, Line}
@@ -22,10 +23,9 @@ use Rattle.store.specs.CellRules.{by, elsewhere, changed_cell, committed_of, nam
 use Rattle.store.specs.States.{State, meaning}
 use Rattle.store.specs.Steps.{hand_at, with_hand, with_cells, held_at, tried, changed_state, changed}
 use Rattle.store.specs.Validity.{ran, only, part, Sits, Valid}
-use Rattle.store.proofs.Altering.{nth_below}
 use Rattle.store.proofs.Judging.{Shows, refines}
-use Rattle.store.proofs.Numbering.{nth_map, nth_there, nth_alter, length-alter, map-alter, drop-map-alter, get_d_set}
-use Rattle.store.proofs.Parts.{or_true, or_false, only_more, names_more, part_some}
+use Rattle.store.proofs.Numbering.{nth_there, nth_alter, length-alter, map-alter, drop-map-alter, get_d_set}
+use Rattle.store.proofs.Parts.{or_false, only_more, names_more, part_some}
 use Rattle.store.proofs.Reseating.{open_hand, seat_within, all-seats, part_frame}
 use Rattle.store.proofs.Running.{ran_more}
 use Rattle.store.proofs.Seeing.{seen_of, sits_frame, alone, sees_cell, sees, held_is}
@@ -105,7 +105,7 @@ module _ {L O : Type 0} (m : Method L O) (sound : Clock → Bool → Option Stag
         let free_x = ap (held_at s) (sym x.1) ∙ free in
         let live = seen_live x.0.own x.0.before x.0.holder s free_x in
         let there : slice_get (map (seen_of m sound f s) t.cells) c.line ≡ Some (m.live x.0.own) =
-        nth_map (seen_of m sound f s) t.cells c.line ∙ ap (option_map (seen_of m sound f s)) x.1 ∙ ap (λ z. Some z) live in
+        slice_get-map (seen_of m sound f s) t.cells c.line ∙ ap (option_map (seen_of m sound f s)) x.1 ∙ ap (λ z. Some z) live in
         ap (λ ls. line_fault (make f ls c)) (sees m sound f t v s)
         ∙ made_fault f (map (seen_of m sound f s) t.cells) c (m.live x.0.own) there (change f (m.live x.0.own) c) refl
         ∙ ap (λ o. line_fault (tried m f c o)) (sym x.1))
@@ -145,7 +145,7 @@ module _ {L O : Type 0} (m : Method L O) (sound : Clock → Bool → Option Stag
           rw (lines, named, due)
 
       names_it : names more.changes c.line ≡ true
-      names_it = names_more h.changes c c.line ∙ ap (λ b. names h.changes c.line || b) (eq-eqb c.line c.line refl) ∙ or_true (names h.changes c.line)
+      names_it = names_more h.changes c c.line ∙ ap (λ b. names h.changes c.line || b) (eq-eqb c.line c.line refl) ∙ or_right (names h.changes c.line) true refl
 
       abbrev work_now : Hand
       work_now = record { began = h.began; changes = only c.line more.changes }
@@ -188,7 +188,7 @@ module _ {L O : Type 0} (m : Method L O) (sound : Clock → Bool → Option Stag
         | inl old ↦ v.inside s j (ap (λ o. names (changes_of_hand o) j) opened ∙ old)
         | inr new ↦
             let it : eqb c.line j ≡ true = ap (λ b. b || eqb c.line j) (sym new) ∙ sym (names_more h.changes c j) ∙ e in
-            subst (λ i. i < length t.cells) (eqb-true c.line j it) (nth_below t.cells c.line x there)
+            subst (λ i. i < length t.cells) (eqb-true c.line j it) (slice_get_within t.cells c.line x there)
       ]
 
       -- another line's part of the seat is as it was

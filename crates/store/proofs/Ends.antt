@@ -6,6 +6,7 @@ use Rattle.std.proofs.lemmas.List.{length-map, length-set, map-id}
 use Rattle.std.proofs.lemmas.Bool.{or_right, eq-eqb, eqb-true, cases_Bool, le-leb}
 use Rattle.lines.specs.declared.changes.Change.{Change}
 use Rattle.lines.specs.Changing.{Outcome}
+use Rattle.std.proofs.lemmas.Simd.{map-map}
 use Rattle.keepers.specs.declared.clocks.Clock.{Clock}
 use Rattle.keepers.specs.declared.faults.KeeperFault.{KeeperFault}
 use Rattle.keepers.specs.declared.faults.KeeperFault.TheVariants.{NoSuchSeat, SeatNotOpen}
@@ -22,8 +23,8 @@ use Rattle.store.specs.States.{State, meaning}
 use Rattle.store.specs.Steps.{hand_at, with_hand, with_cells, ended_cells, ended_state, ended}
 use Rattle.store.specs.Validity.{part, Sits, Valid}
 use Rattle.store.proofs.Judging.{Shows, refines}
-use Rattle.store.proofs.Numbering.{nth_set, nth_there, nth_alter, ext_nth, map_same, map-alter, map-drop-same, map-map, get_d_set}
-use Rattle.store.proofs.Parts.{or_true, part_some}
+use Rattle.store.proofs.Numbering.{nth_set, nth_there, nth_alter, ext_nth, map_same, map-alter, map-drop-same, get_d_set}
+use Rattle.store.proofs.Parts.{part_some}
 use Rattle.store.proofs.Reseating.{passed, open_hand, seat_within, all-seats, part_frame}
 use Rattle.store.proofs.Seeing.{nth_of_map, seen_of, sits_frame, alone, not_mine, sits-names, sees}
 
@@ -59,7 +60,7 @@ names_lines (c ∷ cs) bs bs' long inside is =
     here j b b' q true same p =
         let now_named : true ≡ b = let k : Some true ≡ Some b = ap (λ e. cond e (Some true) (slice_get bs j)) (sym same) ∙ p in cc in
         let old = nth_there bs j (subst (λ i. i < length bs) (eqb-true c.line j same) within) in
-        is j old.0 b' old.1 q ∙ ap (λ e. (e || names cs j) || old.0) same ∙ sym (or_true (names cs j)) ∙ ap (λ d. names cs j || d) now_named
+        is j old.0 b' old.1 q ∙ ap (λ e. (e || names cs j) || old.0) same ∙ sym (or_right (names cs j) true refl) ∙ ap (λ d. names cs j || d) now_named
     here j b b' q false other p =
         is j b b' (ap (λ e. cond e (Some true) (slice_get bs j)) (sym other) ∙ p) q ∙ ap (λ e. (e || names cs j) || b) other
 

@@ -1,7 +1,6 @@
 -- What giving out comes to in Taking.
-use Rattle.std.proofs.Common.{◌≡◌, ◌+◌, ◌≤◌, true, length, set, Some, None}
+use Rattle.std.proofs.Common.{◌≡◌, ◌+◌, true, set, Some}
 use Rattle.std.specs.List.{slice_get}
-use Rattle.std.proofs.lemmas.Option.{slice_get_past}
 use Rattle.keepers.specs.declared.given.Given.{Given}
 use Rattle.keepers.specs.declared.stages.Stage.TheVariants.{Taking}
 use Rattle.keepers.specs.Methods.{Method}
@@ -13,9 +12,6 @@ use Rattle.store.specs.Steps.{given_out}
 use Rattle.store.proofs.Altering.{alter-set}
 
 module _ {L O : Type 0} (m : Method L O) (t : State L O) (taking : true ≡ same t.clock.stage Taking) where
-  pub past_last : length t.cells ≤ t.given → given_out m t ≡ (None, t)
-  past_last past = rw (← taking, slice_get_past t.cells t.given past)
-
   pub next_line : (x : Cell L O) → slice_get t.cells t.given ≡ Some x → (d : Given L) → d ≡ m.gives t.clock x.own → (y : Cell L O) → y ≡ given_cell m t.clock x
       → given_out m t ≡ (Some d, record { cells = set t.cells t.given y; seats = t.seats; clock = t.clock; given = t.given + 1 })
   next_line x there d is_d y is_y =

@@ -5,6 +5,7 @@ use Rattle.std.specs.List.{slice_get}
 use Rattle.std.proofs.lemmas.List.{length-map, drop_all}
 use Rattle.std.proofs.lemmas.Bool.{eqb-true, eqb-false, cases_lt, le-leb, lt-leb}
 use Rattle.lines.specs.Changing.{Outcome}
+use Rattle.std.proofs.lemmas.Option.{slice_get-map, slice_get_within}
 use Rattle.keepers.specs.declared.clocks.Clock.{Clock}
 use Rattle.keepers.specs.declared.given.Given.{Given}
 use Rattle.keepers.specs.declared.stages.Stage.{Stage}
@@ -18,9 +19,9 @@ use Rattle.store.specs.CellRules.{given_cell, committed_of, named_of, due_of, al
 use Rattle.store.specs.States.{State, meaning}
 use Rattle.store.specs.Steps.{given_out, handed}
 use Rattle.store.specs.Validity.{Sits, Valid}
-use Rattle.store.proofs.Altering.{nth_below, nth_none}
+use Rattle.store.proofs.Altering.{nth_none}
 use Rattle.store.proofs.Judging.{Shows, shown}
-use Rattle.store.proofs.Numbering.{nth_map, nth_alter, length-alter, map-alter, drop-map-alter}
+use Rattle.store.proofs.Numbering.{nth_alter, length-alter, map-alter, drop-map-alter}
 
 drop_nth : {X : Type 0} (xs : List X) (d : ℕ) (x : X) → slice_get xs d ≡ Some x → drop d xs ≡ x ∷ drop (suc d) xs
 drop_nth [] d x e = let z : ◌≡◌ {A = ℕ} 0 1 = cc in absurd (omega arith)
@@ -74,7 +75,7 @@ module _ {L O : Type 0} (m : Method L O) (sound : Clock → Bool → Option Stag
 
       meaning_next : gives (meaning m here) ≡ (Some (m.gives clock x.own), meaning m next)
       meaning_next =
-          let at = nth_map (due_of m clock) cells given ∙ ap (option_map (due_of m clock)) there in
+          let at = slice_get-map (due_of m clock) cells given ∙ ap (option_map (due_of m clock)) there in
           let left = drop_nth (map (due_of m clock) cells) given (due_of m clock x) at ∙ ap (λ d. due_of m clock x ∷ drop d (map (due_of m clock) cells)) (sym (add-one given)) in
           let lines = map-alter (committed_of m) (given_cell m clock) cells given (λ z e. subst (λ w. committed_of m (given_cell m clock w) ≡ committed_of m w) (this z e) kept.1) in
           let named = map-alter (named_of m clock) (given_cell m clock) cells given (λ z e. subst (λ w. named_of m clock (given_cell m clock w) ≡ named_of m clock w) (this z e) kept.2) in
@@ -99,7 +100,7 @@ module _ {L O : Type 0} (m : Method L O) (sound : Clock → Bool → Option Stag
       valid_next : Valid m sound f next
       valid_next = record {
         sixteen = v.sixteen;
-        counts = let inside = nth_below cells given x there in rw (length-alter (given_cell m clock) cells given) (omega arith);
+        counts = let inside = slice_get_within cells given x there in rw (length-alter (given_cell m clock) cells given) (omega arith);
         began = v.began;
         inside = λ s j named. rw (length-alter (given_cell m clock) cells given) (v.inside s j named);
         sits = λ j z e. sits_next j z e (eqb given j) refl;

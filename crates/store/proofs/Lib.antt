@@ -3,7 +3,6 @@ pub mod Begins
 pub mod ChangeWays
 pub mod Changes
 pub mod Ends
-pub mod Filling
 pub mod GiveWays
 pub mod Gives
 pub mod Numbering
@@ -14,6 +13,5 @@ pub mod Judging
 pub mod Reseating
 pub mod Running
 pub mod Seeing
-pub mod Sweeping
 pub mod Turns
 pub mod Walking

@@ -1,34 +1,24 @@
 -- Lists by number: what stands at a place.
-use Rattle.std.proofs.Common.{◌≡◌, ℕ, zero, suc, ◌<◌, ◌≤◌, true, false, cond, eqb, List, [], ◌∷◌, map, length, get_or, drop, set, Some, None, Option, sym, refl, ap, ◌∙◌, inl, inr, arith}
+use Rattle.std.proofs.Common.{◌≡◌, ℕ, zero, suc, ◌<◌, ◌≤◌, true, false, cond, eqb, List, [], ◌∷◌, map, length, get_or, drop, set, Some, None, Option, sym, refl, ap, ◌∙◌, arith}
 use Rattle.std.specs.Option.{option_map}
 use Rattle.std.specs.List.{slice_get}
-use Rattle.std.proofs.lemmas.Bool.{eq-eqb, ne_eqb, cases_eq}
+use Rattle.std.proofs.Math.Dec.{eqb-suc-zero, eqb-zero-suc, eqb-suc-suc}
 use Rattle.store.specs.CellRules.{alter}
-
--- two numbers, one or not, as a test says
-eqb_suc : (i j : ℕ) → eqb (suc i) (suc j) ≡ eqb i j
-eqb_suc i j = elim (cases_eq i j) [ inl e ↦ eq-eqb (suc i) (suc j) (omega arith) ∙ sym (eq-eqb i j e) | inr n ↦ ne_eqb (suc i) (suc j) (λ e. n (omega arith)) ∙ sym (ne_eqb i j n) ]
-
-eqb_zero_suc : (j : ℕ) → eqb 0 (suc j) ≡ false
-eqb_zero_suc j = ne_eqb 0 (suc j) (λ e. omega arith)
-
-eqb_suc_zero : (j : ℕ) → eqb (suc j) 0 ≡ false
-eqb_suc_zero j = ne_eqb (suc j) 0 (λ e. omega arith)
 
 module _ {X : Type 0} where
   pub nth_set : (xs : List X) (i j : ℕ) (y : X) → i < length xs → slice_get (set xs i y) j ≡ cond (eqb i j) (Some y) (slice_get xs j)
   nth_set [] i j y h = absurd (omega arith)
   nth_set (x ∷ xs) zero zero y h = refl
-  nth_set (x ∷ xs) zero (suc j) y h = rw (eqb_zero_suc j)
-  nth_set (x ∷ xs) (suc i) zero y h = rw (eqb_suc_zero i)
-  nth_set (x ∷ xs) (suc i) (suc j) y h = nth_set xs i j y (omega arith) ∙ ap (λ b. cond b (Some y) (slice_get xs j)) (sym (eqb_suc i j))
+  nth_set (x ∷ xs) zero (suc j) y h = rw (eqb-zero-suc j)
+  nth_set (x ∷ xs) (suc i) zero y h = rw (eqb-suc-zero i)
+  nth_set (x ∷ xs) (suc i) (suc j) y h = nth_set xs i j y (omega arith) ∙ ap (λ b. cond b (Some y) (slice_get xs j)) (sym (eqb-suc-suc i j))
 
   pub nth_alter : (f : X → X) (xs : List X) (i j : ℕ) → slice_get (alter f xs i) j ≡ cond (eqb i j) (option_map f (slice_get xs j)) (slice_get xs j)
   nth_alter f [] i j = elim (eqb i j) as (λ b. ◌≡◌ {A = Option X} None (cond b None None)) [ true ↦ refl | false ↦ refl ]
   nth_alter f (x ∷ xs) zero zero = refl
-  nth_alter f (x ∷ xs) zero (suc j) = rw (eqb_zero_suc j)
-  nth_alter f (x ∷ xs) (suc i) zero = rw (eqb_suc_zero i)
-  nth_alter f (x ∷ xs) (suc i) (suc j) = nth_alter f xs i j ∙ ap (λ b. cond b (option_map f (slice_get xs j)) (slice_get xs j)) (sym (eqb_suc i j))
+  nth_alter f (x ∷ xs) zero (suc j) = rw (eqb-zero-suc j)
+  nth_alter f (x ∷ xs) (suc i) zero = rw (eqb-suc-zero i)
+  nth_alter f (x ∷ xs) (suc i) (suc j) = nth_alter f xs i j ∙ ap (λ b. cond b (option_map f (slice_get xs j)) (slice_get xs j)) (sym (eqb-suc-suc i j))
 
   pub length-alter : (f : X → X) (xs : List X) (i : ℕ) → length (alter f xs i) ≡ length xs
   length-alter f [] i = refl
@@ -54,16 +44,11 @@ module _ {X : Type 0} where
   pub get_d_set : (xs : List X) (i j : ℕ) (y d : X) → i < length xs → get_or (set xs i y) j d ≡ cond (eqb i j) y (get_or xs j d)
   get_d_set [] i j y d h = absurd (omega arith)
   get_d_set (x ∷ xs) zero zero y d h = refl
-  get_d_set (x ∷ xs) zero (suc j) y d h = rw (eqb_zero_suc j)
-  get_d_set (x ∷ xs) (suc i) zero y d h = rw (eqb_suc_zero i)
-  get_d_set (x ∷ xs) (suc i) (suc j) y d h = get_d_set xs i j y d (omega arith) ∙ ap (λ b. cond b y (get_or xs j d)) (sym (eqb_suc i j))
+  get_d_set (x ∷ xs) zero (suc j) y d h = rw (eqb-zero-suc j)
+  get_d_set (x ∷ xs) (suc i) zero y d h = rw (eqb-suc-zero i)
+  get_d_set (x ∷ xs) (suc i) (suc j) y d h = get_d_set xs i j y d (omega arith) ∙ ap (λ b. cond b y (get_or xs j d)) (sym (eqb-suc-suc i j))
 
 module _ {X Y : Type 0} where
-  pub nth_map : (f : X → Y) (xs : List X) (i : ℕ) → slice_get (map f xs) i ≡ option_map f (slice_get xs i)
-  nth_map f [] i = refl
-  nth_map f (x ∷ xs) zero = refl
-  nth_map f (x ∷ xs) (suc i) = nth_map f xs i
-
   -- functions that agree on the elements give one list
   pub map_same : (f g : X → Y) (xs : List X) → ((j : ℕ) (x : X) → slice_get xs j ≡ Some x → f x ≡ g x) → map f xs ≡ map g xs
   map_same f g [] same = refl
@@ -90,7 +75,3 @@ module _ {X Y : Type 0} where
   map-drop-same f g zero xs same = map_same f g xs (λ j x p. same j x p (omega arith))
   map-drop-same f g (suc d) [] same = refl
   map-drop-same f g (suc d) (x ∷ xs) same = map-drop-same f g d xs (λ j y p h. same (suc j) y p (omega arith))
-
-pub map-map : {X Y Z : Type 0} (g : Y → Z) (f : X → Y) (xs : List X) → map g (map f xs) ≡ map (λ x. g (f x)) xs
-map-map g f [] = refl
-map-map g f (x ∷ xs) = ap (λ ys. g (f x) ∷ ys) (map-map g f xs)

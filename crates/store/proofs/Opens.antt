@@ -5,6 +5,8 @@ use Rattle.std.specs.List.{slice_get}
 use Rattle.std.proofs.lemmas.List.{length-map, drop_all, map-id}
 use Rattle.std.proofs.lemmas.Bool.{lt-leb}
 use Rattle.lines.specs.Changing.{Outcome}
+use Rattle.std.proofs.lemmas.Option.{slice_get_within}
+use Rattle.std.proofs.lemmas.Simd.{map-map}
 use Rattle.keepers.specs.declared.clocks.Clock.{Clock}
 use Rattle.keepers.specs.declared.stages.Stage.{Stage}
 use Rattle.keepers.specs.declared.stages.Stage.TheVariants.{Rest}
@@ -16,8 +18,7 @@ use Rattle.store.specs.CellRules.{fresh_cell, committed_of, named_of, due_of}
 use Rattle.store.specs.States.{meaning}
 use Rattle.store.specs.Steps.{new_state}
 use Rattle.store.specs.Validity.{part, Sits, Valid}
-use Rattle.store.proofs.Altering.{nth_below}
-use Rattle.store.proofs.Numbering.{map_same, map-map}
+use Rattle.store.proofs.Numbering.{map_same}
 use Rattle.store.proofs.Seeing.{nth_of_map}
 
 all_shut : (n s : ℕ) → get_or (replicate {A = Option Hand} n None) s None ≡ None
@@ -30,7 +31,7 @@ module _ {L O : Type 0} (m : Method L O) (sound : Clock → Bool → Option Stag
       → Sits m sound f (replicate 16 None) start (leb (length ls) j) j x.own x.holder x.before
   sits-new j x e =
       let y = nth_of_map (fresh_cell m) ls j x e in
-      let out : false ≡ leb (length ls) j = let inside = nth_below ls j y.0 y.1 in sym (lt-leb (length ls) j inside) in
+      let out : false ≡ leb (length ls) j = let inside = slice_get_within ls j y.0 y.1 in sym (lt-leb (length ls) j inside) in
       subst (λ w. Sits m sound f (replicate 16 None) start (leb (length ls) j) j w.own w.holder w.before) y.2
       (record { parts = λ s. ap (part j) (all_shut 16 s); is_sound = subst (λ b. sound start b None y.0 (m.fresh y.0)) out (law.fresh_is y.0).sound_is })
 

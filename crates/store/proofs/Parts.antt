@@ -6,10 +6,6 @@ use Rattle.keepers.specs.Meanings.{Hand, names, any, changes_of_hand}
 use Rattle.store.specs.Validity.{only, part}
 
 -- tests joined by or
-pub or_true : (b : Bool) → (b || true) ≡ true
-or_true true = refl
-or_true false = refl
-
 pub or_false : (b : Bool) → (b || false) ≡ b
 or_false true = refl
 or_false false = refl

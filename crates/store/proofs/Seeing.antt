@@ -6,6 +6,7 @@ use Rattle.std.proofs.lemmas.List.{length-map}
 use Rattle.std.proofs.lemmas.Bool.{eq-eqb, eqb-true, ne_eqb, cases_Bool, cases_eq, not-false}
 use Rattle.lines.specs.Changing.{Outcome}
 use Rattle.lines.specs.Numbered.{after}
+use Rattle.std.proofs.lemmas.Option.{slice_get-map}
 use Rattle.keepers.specs.declared.clocks.Clock.{Clock}
 use Rattle.keepers.specs.declared.stages.Stage.{Stage}
 use Rattle.keepers.specs.Meanings.{Hand, names, any, changes_of_hand}
@@ -15,13 +16,13 @@ use Rattle.store.specs.declared.cells.Cell.{Cell}
 use Rattle.store.specs.CellRules.{by, elsewhere, committed_of}
 use Rattle.store.specs.States.{State}
 use Rattle.store.specs.Validity.{ran, only, part, Sits, Valid}
-use Rattle.store.proofs.Numbering.{nth_map, get_d_set}
+use Rattle.store.proofs.Numbering.{get_d_set}
 use Rattle.store.proofs.Parts.{part_none, part_some, any_none, any_some}
 use Rattle.store.proofs.Running.{after_lines}
 
 -- an element of a mapped list comes from one of the list
 pub nth_of_map : {X Y : Type 0} (g : X → Y) (xs : List X) (j : ℕ) (y : Y) → slice_get (map g xs) j ≡ Some y → (x : X) × (slice_get xs j ≡ Some x) × (g x ≡ y)
-nth_of_map g xs j y e = from (slice_get xs j) refl (sym (nth_map g xs j) ∙ e)
+nth_of_map g xs j y e = from (slice_get xs j) refl (sym (slice_get-map g xs j) ∙ e)
   where
     from : (o : Option _) → slice_get xs j ≡ o → option_map g o ≡ Some y → (x : _) × (slice_get xs j ≡ Some x) × (g x ≡ y)
     from None is p = let z : ◌≡◌ {A = ℕ} 0 1 = cc in absurd (omega arith)

@@ -5,6 +5,8 @@ use Rattle.std.specs.List.{slice_get}
 use Rattle.std.proofs.lemmas.List.{length-map, length-drop, map-id}
 use Rattle.std.proofs.lemmas.Bool.{eqb-true, eq-eqb, le-leb, lt-leb, cases_Bool}
 use Rattle.lines.specs.Changing.{Outcome}
+use Rattle.std.proofs.lemmas.Option.{slice_get_within}
+use Rattle.std.proofs.lemmas.Simd.{map-map}
 use Rattle.keepers.specs.declared.clocks.Clock.{Clock}
 use Rattle.keepers.specs.declared.faults.KeeperFault.{KeeperFault}
 use Rattle.keepers.specs.declared.faults.KeeperFault.TheVariants.{NotAtRest, WaitsForSeat, WaitsForLines, AtRest}
@@ -20,9 +22,8 @@ use Rattle.store.specs.CellRules.{pointed_cell, committed_of, named_of, due_of}
 use Rattle.store.specs.States.{State, meaning}
 use Rattle.store.specs.Steps.{moved_on, called, waits, turned as turned_on}
 use Rattle.store.specs.Validity.{part, Sits, Counts, Valid}
-use Rattle.store.proofs.Altering.{nth_below}
 use Rattle.store.proofs.Judging.{Shows, refines}
-use Rattle.store.proofs.Numbering.{map_same, map-drop-same, map-map}
+use Rattle.store.proofs.Numbering.{map_same, map-drop-same}
 use Rattle.store.proofs.Reseating.{passed}
 use Rattle.store.proofs.Seeing.{nth_of_map, part-began}
 
@@ -160,7 +161,7 @@ module _ {L O : Type 0} (m : Method L O) (sound : Clock → Bool → Option Stag
           × Sits m sound f t.seats (ticked t.clock) (leb t.given j) j x.own x.holder x.before
       kept j x there =
           turned_kept t.seats t.clock (leb t.given j) j x.own x.before not_called
-          (due-onward t.clock.stage t.given (length t.cells) j not_called v.counts all_out (nth_below t.cells j x there)) v.began then_open x.holder (v.sits j x there)
+          (due-onward t.clock.stage t.given (length t.cells) j not_called v.counts all_out (slice_get_within t.cells j x there)) v.began then_open x.holder (v.sits j x there)
 
       abbrev on : State L O
       on = record { cells = t.cells; seats = t.seats; clock = ticked t.clock; given = t.given }
@@ -231,7 +232,7 @@ module _ {L O : Type 0} (m : Method L O) (sound : Clock → Bool → Option Stag
           × (due_of m after_point.clock (pointed_cell m x) ≡ record { line = committed_of m x; named = named_of m before_point.clock x })
           × Sits m sound f seats after_point.clock true j (m.pointed x.own) x.holder x.before
       shown j x there =
-          let not_due : leb given j ≡ false = let inside = nth_below cells j x there in let all : given ≡ length cells = v.counts in lt-leb given j (omega arith) in
+          let not_due : leb given j ≡ false = let inside = slice_get_within cells j x there in let all : given ≡ length cells = v.counts in lt-leb given j (omega arith) in
           pointed_kept seats before_point.clock j x.own x.before refl v.began then_open x.holder
           (subst (λ b. Sits m sound f seats before_point.clock b j x.own x.holder x.before) not_due (v.sits j x there))
 

@@ -1,6 +1,6 @@
 // One line's place in a store, and what is done to it.
 ghost use Rattle.std.specs.Prelude.{◌≡◌};
-ghost use Rattle.store.specs.CellRules.{by, elsewhere, fresh_cell, changed_cell, ended_cell, given_cell, pointed_cell, committed_of};
+ghost use Rattle.store.specs.CellRules.{elsewhere, fresh_cell, changed_cell, ended_cell, given_cell, pointed_cell, committed_of};
 
 use keepers::clocks::Clock;
 use keepers::rules::Rules;
@@ -21,111 +21,96 @@ pub enum End {
     Abandon,
 }
 
-// A cell at opening.
-pub(crate) fn fresh_cell<R: Rules>(line: R::Line) -> Cell<R::Line, R>
-    ensures { result ≡ fresh_cell R.Rules.method line }
-{
-    Cell {
-        own: R::fresh(line),
-        holder: None,
-        before: line,
-    }
-}
-
-pub(crate) fn is_held_by(holder: Option<u8>, seat: u8) -> bool
-    ensures { result ≡ by holder seat }
-{
-    match holder {
-        None => false,
-        Some(other) => other == seat,
-    }
-}
-
-pub(crate) fn is_held_elsewhere(holder: Option<u8>, seat: u8) -> bool
-    ensures { result ≡ elsewhere holder seat }
-{
-    match holder {
-        None => false,
-        Some(other) => other != seat,
-    }
-}
-
-// The cell after `seat`, whose command began in `began`, changed its line to `line`.
-pub(crate) fn changed_cell<R: Rules>(
-    cell: Cell<R::Line, R>,
-    clock: Clock,
-    seat: u8,
-    began: Stage,
-    line: R::Line,
-) -> Cell<R::Line, R>
-    ensures { result ≡ changed_cell R.Rules.method clock seat began line cell }
-{
-    if cell.holder.is_some() {
+// A seat and the stage in which its command began stay two parameters: the holder is the one, the rules take the other, and a struct of both would be taken apart at once.
+impl<R: Rules> Cell<R::Line, R> {
+    // A cell at opening.
+    pub(crate) fn fresh(line: R::Line) -> Cell<R::Line, R>
+        ensures { result ≡ fresh_cell R.Rules.method line }
+    {
         Cell {
-            own: cell.own.later(clock, line),
-            holder: Some(seat),
-            before: cell.before,
-        }
-    } else {
-        Cell {
-            own: cell.own.first(clock, began, line),
-            holder: Some(seat),
-            before: cell.own.live(),
+            own: R::fresh(line),
+            holder: None,
+            before: line,
         }
     }
-}
 
-// The cell after the command in `seat` ended, if it held it.
-pub(crate) fn ended_cell<R: Rules>(
-    cell: Cell<R::Line, R>,
-    end: End,
-    clock: Clock,
-    seat: u8,
-    began: Stage,
-) -> Cell<R::Line, R>
-    ensures { result ≡ ended_cell R.Rules.method end clock seat began cell }
-{
-    if !is_held_by(cell.holder, seat) {
-        return cell;
+    pub(crate) fn is_held_elsewhere(self, seat: u8) -> bool
+        ensures { result ≡ elsewhere self.holder seat }
+    {
+        self.holder.is_some_and(|holder| holder != seat)
     }
-    let own = match end {
-        End::Commit => cell.own.commit(clock, began),
-        End::Abandon => cell.own.abandon(clock, began, cell.before),
-    };
-    Cell {
-        own,
-        holder: None,
-        before: cell.before,
-    }
-}
 
-// The line with committed changes only.
-pub(crate) fn committed_line<R: Rules>(cell: Cell<R::Line, R>) -> R::Line
-    ensures { result ≡ committed_of R.Rules.method cell }
-{
-    if cell.holder.is_some() {
-        cell.before
-    } else {
-        cell.own.live()
+    // The cell after `seat`, whose command began in `began`, changed its line to `line`.
+    pub(crate) fn changed(
+        self,
+        clock: Clock,
+        seat: u8,
+        began: Stage,
+        line: R::Line,
+    ) -> Cell<R::Line, R>
+        ensures { result ≡ changed_cell R.Rules.method clock seat began line self }
+    {
+        if self.holder.is_some() {
+            Cell {
+                own: self.own.later(clock, line),
+                holder: Some(seat),
+                ..self
+            }
+        } else {
+            Cell {
+                own: self.own.first(clock, began, line),
+                holder: Some(seat),
+                before: self.own.live(),
+            }
+        }
     }
-}
 
-pub(crate) fn given_cell<R: Rules>(cell: Cell<R::Line, R>, clock: Clock) -> Cell<R::Line, R>
-    ensures { result ≡ given_cell R.Rules.method clock cell }
-{
-    Cell {
-        own: cell.own.given(clock),
-        holder: cell.holder,
-        before: cell.before,
+    // The cell after the command in `seat` ended, if it held it.
+    pub(crate) fn ended(self, end: End, clock: Clock, seat: u8, began: Stage) -> Cell<R::Line, R>
+        ensures { result ≡ ended_cell R.Rules.method end clock seat began self }
+    {
+        if self.holder != Some(seat) {
+            return self;
+        }
+        let own = match end {
+            End::Commit => self.own.commit(clock, began),
+            End::Abandon => self.own.abandon(clock, began, self.before),
+        };
+        Cell {
+            own,
+            holder: None,
+            ..self
+        }
     }
-}
 
-pub(crate) fn pointed_cell<R: Rules>(cell: Cell<R::Line, R>) -> Cell<R::Line, R>
-    ensures { result ≡ pointed_cell R.Rules.method cell }
-{
-    Cell {
-        own: cell.own.pointed(),
-        holder: cell.holder,
-        before: cell.before,
+    // The line with committed changes only.
+    pub(crate) fn committed(self) -> R::Line
+        ensures { result ≡ committed_of R.Rules.method self }
+    {
+        if self.holder.is_some() {
+            self.before
+        } else {
+            self.own.live()
+        }
+    }
+
+    // The cell after its line was given out.
+    pub(crate) fn given(self, clock: Clock) -> Cell<R::Line, R>
+        ensures { result ≡ given_cell R.Rules.method clock self }
+    {
+        Cell {
+            own: self.own.given(clock),
+            ..self
+        }
+    }
+
+    // The cell at the point.
+    pub(crate) fn pointed(self) -> Cell<R::Line, R>
+        ensures { result ≡ pointed_cell R.Rules.method self }
+    {
+        Cell {
+            own: self.own.pointed(),
+            ..self
+        }
     }
 }

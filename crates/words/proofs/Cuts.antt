@@ -1,46 +1,51 @@
--- A cut found byte by byte.
-use Rattle.std.proofs.Common.{◌≡◌, ℕ, ◌+◌, ◌<◌, ◌≤◌, eqb, List, [], ◌∷◌, ◌++◌, length, get_or, take, drop, sym, ◌∙◌, inl, inr, arith}
-use Rattle.std.proofs.lemmas.List.{at_drop_more, at_drop_all, take_all, take_more, drop_all, append_assoc, append-nil}
-use Rattle.std.proofs.lemmas.Bool.{cases_Bool, eq-eqb, ne_eqb}
-use Rattle.words.specs.Pieces.{before, beyond}
+-- A cut at the first mark, which `position` finds.
+use Rattle.std.proofs.Common.{◌≡◌, ℕ, suc, ◌+◌, ◌<◌, ◌≤◌, eqb, List, [], ◌∷◌, length, take, drop, Some, None, refl, inl, inr, arith}
+use Rattle.std.specs.List.{position, position_or_len, before_first, after_first}
+use Rattle.std.proofs.lemmas.Grind.{common_steps}
+use Rattle.std.proofs.lemmas.Bool.{cases_Bool}
+use Rattle.words.specs.Pieces.{before, beyond, pieces, onto_first}
 
--- a cut takes a byte away, if there is one
-beyond_least : (mark : ℕ) (bs : List ℕ) → length (beyond mark bs) ≤ length bs
-beyond_least mark [] = omega arith
-beyond_least mark (b ∷ bs) = elim (cases_Bool (eqb b mark)) [ inl t ↦ rw t (omega arith) | inr f ↦ rw f (omega (arith, beyond_least mark bs)) ]
+one_more : (n : ℕ) → 1 + n ≡ suc n
+one_more n = omega arith
 
-pub beyond_shorter : (mark : ℕ) (bs : List ℕ) → 0 < length bs → length (beyond mark bs) < length bs
-beyond_shorter mark [] h = h
-beyond_shorter mark (b ∷ bs) h = elim (cases_Bool (eqb b mark)) [ inl t ↦ rw t (omega arith) | inr f ↦ rw f (omega (arith, beyond_least mark bs)) ]
+two_more : (n : ℕ) → 1 + n + 1 ≡ suc (n + 1)
+two_more n = omega arith
 
-module _ (mark : ℕ) (bs : List ℕ) (i : ℕ) where
-  -- no byte so far is the mark
-  pub record Uncut : Type 0 where
-    pub front : before mark bs ≡ take i bs ++ before mark (drop i bs)
-    pub back : beyond mark bs ≡ beyond mark (drop i bs)
+before_is : (mark : ℕ) (bs : List ℕ) → before mark bs ≡ before_first (λ c. eqb c mark) bs
+before_is mark [] = refl
+before_is mark (b ∷ bs) = elim (cases_Bool (eqb b mark)) [ inl t ↦ rw t refl | inr f ↦ rw (f, before_is mark bs, one_more (position_or_len (λ c. eqb c mark) bs)) refl ]
 
-module _ (mark : ℕ) (bs : List ℕ) (i : ℕ) (so_far : Uncut mark bs i) where
-  pub cut_here : i < length bs → get_or bs i 0 ≡ mark → (take i bs ≡ before mark bs) × (drop (i + 1) bs ≡ beyond mark bs)
-  cut_here inside e =
-      let t = eq-eqb (get_or bs i 0) mark e in
-      let front : before mark (drop i bs) ≡ [] = at_drop_more (before mark) bs i 0 inside ∙ rw t in
-      let back : beyond mark (drop i bs) ≡ drop (i + 1) bs = at_drop_more (beyond mark) bs i 0 inside ∙ rw t in
-      (sym (so_far.front ∙ rw front (append-nil (take i bs))), sym (so_far.back ∙ back))
+beyond_is : (mark : ℕ) (bs : List ℕ) → beyond mark bs ≡ after_first (λ c. eqb c mark) bs
+beyond_is mark [] = refl
+beyond_is mark (b ∷ bs) = elim (cases_Bool (eqb b mark)) [ inl t ↦ rw t refl | inr f ↦ rw (f, beyond_is mark bs, two_more (position_or_len (λ c. eqb c mark) bs)) refl ]
 
-  pub uncut_more : i < length bs → (get_or bs i 0 ≡ mark → ⊥) → Uncut mark bs (i + 1)
-  uncut_more inside other =
-      let f = ne_eqb (get_or bs i 0) mark other in
-      let front : before mark (drop i bs) ≡ get_or bs i 0 ∷ before mark (drop (i + 1) bs) = at_drop_more (before mark) bs i 0 inside ∙ rw f in
-      let back : beyond mark (drop i bs) ≡ beyond mark (drop (i + 1) bs) = at_drop_more (beyond mark) bs i 0 inside ∙ rw f in
-      record {
-        front = so_far.front ∙ rw (front, take_more bs i 0 inside) (sym (append_assoc (take i bs) (get_or bs i 0 ∷ []) (before mark (drop (i + 1) bs))));
-        back = so_far.back ∙ back;
-      }
+module _ (mark : ℕ) (bs : List ℕ) where
+  pub cut_some : (i : ℕ) → Some i ≡ position (λ c. eqb c mark) bs → (before mark bs ≡ take i bs) × (beyond mark bs ≡ drop (i + 1) bs)
+  cut_some i e = grind (arith, common_steps, before_is mark bs, beyond_is mark bs)
 
-  pub cut_nowhere : length bs ≤ i → (take (length bs) bs ≡ before mark bs) × (drop (length bs) bs ≡ beyond mark bs)
-  cut_nowhere past =
-      let front : before mark (drop i bs) ≡ [] = at_drop_all (before mark) bs i past in
-      let back : beyond mark (drop i bs) ≡ [] = at_drop_all (beyond mark) bs i past in (
-        take_all (length bs) bs (omega arith) ∙ sym (so_far.front ∙ rw (front, take_all i bs past) (append-nil bs)),
-        drop_all (length bs) bs (omega arith) ∙ sym (so_far.back ∙ back),
-      )
+  pub cut_none : None ≡ position (λ c. eqb c mark) bs → (before mark bs ≡ bs) × (beyond mark bs ≡ [])
+  cut_none e = grind (arith, common_steps, before_is mark bs, beyond_is mark bs)
+
+-- the first piece goes as far as the first mark, and the others come from behind it
+pub first_piece : (mark : ℕ) (b : ℕ) (bs : List ℕ) → pieces mark (b ∷ bs) ≡ before mark (b ∷ bs) ∷ pieces mark (beyond mark (b ∷ bs))
+first_piece mark b [] = elim (cases_Bool (eqb b mark)) [ inl t ↦ rw t refl | inr f ↦ rw f refl ]
+first_piece mark b (c ∷ cs) = elim (cases_Bool (eqb b mark)) [ inl t ↦ rw t refl | inr f ↦ rw (f, first_piece mark c cs) refl ]
+
+pub next_piece : (mark : ℕ) (bs : List ℕ) → 0 < length bs → pieces mark bs ≡ before mark bs ∷ pieces mark (beyond mark bs)
+next_piece mark [] h = absurd (omega arith)
+next_piece mark (b ∷ bs) h = first_piece mark b bs
+
+pub fewer_pieces : (mark : ℕ) (bs : List ℕ) → 0 < length bs → length (pieces mark (beyond mark bs)) < length (pieces mark bs)
+fewer_pieces mark bs some = rw (next_piece mark bs some) (omega arith)
+
+-- a piece has a byte or a mark of its own
+first_longer : (b : ℕ) (ps : List (List ℕ)) → length (onto_first b ps) ≤ length ps + 1
+first_longer b [] = omega arith
+first_longer b (p ∷ ps) = omega arith
+
+pub few_pieces : (mark : ℕ) (bs : List ℕ) → length (pieces mark bs) ≤ length bs
+few_pieces mark [] = omega arith
+few_pieces mark (b ∷ bs) = elim (cases_Bool (eqb b mark)) [
+  | inl t ↦ rw t (omega (arith, few_pieces mark bs))
+  | inr f ↦ rw f (omega (arith, few_pieces mark bs, first_longer b (pieces mark bs)))
+]

@@ -1,8 +1,9 @@
 -- A number read digit by digit.
-use Rattle.std.proofs.Common.{◌≡◌, ℕ, ◌+◌, ◌-◌, ◌*◌, ◌^◌, ◌<◌, ◌≤◌, ◌&&◌, ltb, List, [], ◌∷◌, length, get_or, drop, Some, None, refl, ◌∙◌, inl, inr, arith}
+use Rattle.std.proofs.Common.{◌≡◌, ℕ, ◌+◌, ◌-◌, ◌*◌, ◌^◌, ◌<◌, ◌≤◌, ltb, List, [], ◌∷◌, length, get_or, drop, None, refl, ◌∙◌, arith}
 use Rattle.std.proofs.lemmas.List.{at_drop_more}
-use Rattle.std.proofs.lemmas.Bool.{le-ltb, lt-ltb, and_parts, and_right, cases_Bool, cases_lt}
-use Rattle.words.specs.Decimal.{digit, digits, value, behind, decimal, longer}
+use Rattle.std.proofs.lemmas.Grind.{common_steps}
+use Rattle.std.proofs.lemmas.Bool.{le-ltb, and_right}
+use Rattle.words.specs.Decimal.{digits, value, behind, decimal, longer}
 
 -- more digits never make a number smaller
 value_ge : (n : ℕ) (cs : List ℕ) → n ≤ value n cs
@@ -18,34 +19,10 @@ decimal_is (c ∷ cs) h = refl
 
 -- the next byte of a word: a digit that fits, or the end of it
 module _ (n c : ℕ) (cs : List ℕ) where
-  next_some : (m : ℕ) → Some m ≡ longer n c → behind n (c ∷ cs) ≡ behind m cs
-  next_some m h = elim (cases_Bool (digit c && ltb (n * 10 + (c - 48)) (2 ^ 64))) [
-    | inl t ↦
-        let e : Some m ≡ Some (n * 10 + (c - 48)) = rw t at h in
-        let same : m ≡ n * 10 + (c - 48) = cc in
-        rw ((and_parts (digit c) (ltb (n * 10 + (c - 48)) (2 ^ 64)) t).0, same)
-    | inr f ↦ let e : Some m ≡ None = rw f at h in let z : ◌≡◌ {A = ℕ} 0 1 = cc in absurd (omega arith)
-  ]
-
   next_none : None ≡ longer n c → behind n (c ∷ cs) ≡ None
-  next_none h = elim (cases_Bool (digit c)) [
-    | inr f ↦ rw f
-    | inl t ↦ elim (cases_lt (n * 10 + (c - 48)) (2 ^ 64)) [
-      | inl low ↦
-          let e : None ≡ Some (n * 10 + (c - 48)) = rw (t, lt-ltb (n * 10 + (c - 48)) (2 ^ 64) low) at h in
-          let z : ◌≡◌ {A = ℕ} 0 1 = cc in absurd (omega arith)
-      | inr high ↦ rw t (behind_over (n * 10 + (c - 48)) cs high)
-    ]
-  ]
+  next_none h = grind (arith, common_steps, behind_over (n * 10 + (c - 48)) cs)
 
 -- the same at the place i of a word
 module _ (cs : List ℕ) (n i : ℕ) (inside : i < length cs) where
-  pub behind_some : (m : ℕ) → Some m ≡ longer n (get_or cs i 0) → behind n (drop i cs) ≡ behind m (drop (i + 1) cs)
-  behind_some m h = at_drop_more (behind n) cs i 0 inside ∙ next_some n (get_or cs i 0) (drop (i + 1) cs) m h
-
   pub behind_none : None ≡ longer n (get_or cs i 0) → behind n (drop i cs) ≡ None
   behind_none h = at_drop_more (behind n) cs i 0 inside ∙ next_none n (get_or cs i 0) (drop (i + 1) cs) h
-
--- all of it read, the number fits
-pub behind_end : (n : ℕ) → n < 2 ^ 64 → behind n [] ≡ Some n
-behind_end n h = rw (lt-ltb n (2 ^ 64) h)

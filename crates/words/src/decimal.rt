@@ -19,22 +19,20 @@ pub fn number(word: &[u8]) -> Option<u64>
 fn with_digit(n: u64, c: u8) -> Option<u64>
     ensures { result ≡ longer n c }
 {
-    if c < b'0' || c > b'9' {
-        return None;
+    match c {
+        b'0'..=b'9' => n.checked_mul(10)?.checked_add(u64::from(c - b'0')),
+        _ => None,
     }
-    n.checked_mul(10)?.checked_add(u64::from(c - b'0'))
 }
 
 // The same with a `-` allowed in front, in two's complement.
 pub fn signed_number(word: &[u8]) -> Option<i64>
     ensures { result ≡ signed word.now }
 {
-    if !word.is_empty() && word[0] == b'-' {
-        let n = number(&word[1..])?;
-        return below_zero(n);
+    match word {
+        [b'-', digits @ ..] => below_zero(number(digits)?),
+        _ => i64::try_from(number(word)?).ok(),
     }
-    let n = number(word)?;
-    i64::try_from(n).ok()
 }
 
 fn below_zero(n: u64) -> Option<i64>

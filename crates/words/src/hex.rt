@@ -9,29 +9,25 @@ use std::alloc::{AllocError, Global};
 pub fn read_hex(heap: Global, word: &[u8]) -> Result<Option<Vec<u8>>, AllocError>
     ensures { IfOk result (λ o. option_map vec_items o ≡ hex word.now) }
 {
-    if word.is_empty() {
-        return Ok(None);
+    match word {
+        [] => Ok(None),
+        [b'-'] => Ok(Some(Vec::new(heap))),
+        _ => read_pairs(heap, word),
     }
-    if word.len() == 1 && word[0] == b'-' {
-        return Ok(Some(Vec::new(heap)));
-    }
-    read_pairs(heap, word)
 }
 
 fn read_pairs(heap: Global, word: &[u8]) -> Result<Option<Vec<u8>>, AllocError>
     ensures { IfOk result (λ o. option_map vec_items o ≡ pairs word.now) }
 {
+    let (pairs, []) = word.as_chunks::<2>() else {
+        return Ok(None);
+    };
     let mut bytes = Vec::new(heap);
-    let mut i = 0;
-    while i + 1 < word.len() {
-        let Some(b) = byte(word[i], word[i + 1]) else {
+    for [c, d] in pairs {
+        let Some(b) = byte(*c, *d) else {
             return Ok(None);
         };
         bytes.push(b)?;
-        i += 2;
-    }
-    if i < word.len() {
-        return Ok(None);
     }
     Ok(Some(bytes))
 }

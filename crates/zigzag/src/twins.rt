@@ -1,65 +1,47 @@
 // A cell of Zigzag, and its rules.
 ghost use Rattle.std.specs.Prelude.{◌≡◌};
-ghost use Rattle.zigzag.specs.Zigzag.{copy, with_copy, changed, with_named, zigzag, IsSound};
+ghost use Rattle.zigzag.specs.Zigzag.{with_copy, changed, zigzag, IsSound};
 ghost use Rattle.std.proofs.Common.{rules};
 
 use keepers::clocks::Clock;
 use keepers::given::Given;
-use keepers::named_bits::NamedBits;
-use keepers::rules::Rules;
+use keepers::pairs::Two;
+use keepers::rules::{MOST_LINES, Rules};
 use keepers::stages::Stage;
 use lines::traits::Line;
 use store::stores::Store;
 
-// Copies 0 and 1 of a line; the bit MR, which copy is read; the bit MW, which copy a change writes; and the two named bits. A bit is 1 where it is true.
+// Copies 0 and 1 of a line, as `even` and `odd`; the bit MR, which copy is read; the bit MW, which copy a change writes; and the two named bits. A bit is 1 where it is true.
 #[derive(Clone, Copy)]
 pub struct Twin<L> {
-    pub zero: L,
-    pub one: L,
+    pub copies: Two<L>,
     pub mr: bool,
     pub mw: bool,
-    pub named: NamedBits,
+    pub named: Two<bool>,
 }
 
 // A keeper by this method.
 pub type Zigzag<'a, L> = Store<'a, Twin<L>>;
 
-const MOST_LINES: usize = 1024;
-
-fn copy_at<L: Copy>(twin: Twin<L>, i: bool) -> L
-    ensures { result ≡ copy twin i }
-{
-    if i { twin.one } else { twin.zero }
-}
-
-// The cell with a line written into copy MW.
-fn written<L: Copy>(twin: Twin<L>, line: L) -> Twin<L>
-    ensures { result ≡ with_copy twin twin.mw line }
-{
-    let mut twin = twin;
-    if twin.mw {
-        twin.one = line;
-    } else {
-        twin.zero = line;
+impl<L: Line> Twin<L> {
+    // The cell with a line written into copy MW.
+    fn written(self, line: L) -> Twin<L>
+        ensures { result ≡ with_copy self self.mw line }
+    {
+        Twin {
+            copies: self.copies.with(self.mw, line),
+            ..self
+        }
     }
-    twin
-}
 
-fn changed<L: Copy>(twin: Twin<L>, line: L) -> Twin<L>
-    ensures { result ≡ changed twin line }
-{
-    let mut twin = written(twin, line);
-    twin.mr = twin.mw;
-    twin
-}
-
-// The cell with one of its named bits set or cleared.
-fn with_named<L: Copy>(twin: Twin<L>, odd: bool, named: bool) -> Twin<L>
-    ensures { result ≡ with_named twin odd named }
-{
-    let mut twin = twin;
-    twin.named = twin.named.with(odd, named);
-    twin
+    fn changed(self, line: L) -> Twin<L>
+        ensures { result ≡ changed self line }
+    {
+        Twin {
+            mr: self.mw,
+            ..self.written(line)
+        }
+    }
 }
 
 impl<L: Line> Rules for Twin<L> {
@@ -85,48 +67,54 @@ impl<L: Line> Rules for Twin<L> {
 
     fn fresh(line: L) -> Twin<L> {
         Twin {
-            zero: line,
-            one: line,
+            copies: Two::both(line),
             mr: false,
             mw: true,
-            named: NamedBits::new(),
+            named: Two::both(false),
         }
     }
 
     fn first(self, _clock: Clock, _began: Stage, line: L) -> Twin<L> {
-        changed(self, line)
+        self.changed(line)
     }
 
     fn later(self, _clock: Clock, line: L) -> Twin<L> {
-        changed(self, line)
+        self.changed(line)
     }
 
     fn commit(self, clock: Clock, _began: Stage) -> Twin<L> {
-        with_named(self, clock.odd, true)
+        Twin {
+            named: self.named.with(clock.odd, true),
+            ..self
+        }
     }
 
     fn abandon(self, _clock: Clock, _began: Stage, before: L) -> Twin<L> {
-        written(self, before)
+        self.written(before)
     }
 
     fn gives(self, clock: Clock) -> Given<L> {
         Given {
-            line: copy_at(self, !self.mw),
+            line: self.copies.get(!self.mw),
             named: self.named.get(!clock.odd),
         }
     }
 
     fn given(self, clock: Clock) -> Twin<L> {
-        with_named(self, !clock.odd, false)
+        Twin {
+            named: self.named.with(!clock.odd, false),
+            ..self
+        }
     }
 
     fn pointed(self) -> Twin<L> {
-        let mut twin = self;
-        twin.mw = !twin.mr;
-        twin
+        Twin {
+            mw: !self.mr,
+            ..self
+        }
     }
 
     fn live(self) -> L {
-        copy_at(self, self.mr)
+        self.copies.get(self.mr)
     }
 }

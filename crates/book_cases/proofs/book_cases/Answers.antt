@@ -16,8 +16,8 @@ returns c = record {
   run_history = refl;
   run_image = refl;
   run_no_image = refl;
-  image_head = c.head_of_empty.ensures;
-  image_end = c.end_of_empty.ensures;
-  image = rw (c.head_of_empty.ensures, c.end_of_empty.ensures) (sym (writing-parts account empty_book));
-  image_read = rw (c.head_of_empty.ensures, c.end_of_empty.ensures);
+  image_head = c.recorded.ensures;
+  image_end = c.recorded-2.ensures;
+  image = rw (c.recorded.ensures, c.recorded-2.ensures) (sym (writing-parts account empty_book));
+  image_read = rw (c.recorded.ensures, c.recorded-2.ensures);
 }

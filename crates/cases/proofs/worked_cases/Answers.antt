@@ -1,9 +1,17 @@
-use Rattle.std.proofs.Common.{ap}
+use Rattle.std.proofs.Common.{ap, refl, arith}
 use Rattle.lines.specs.Bytes.{le}
 use Rattle.records.specs.Changes.{change_bytes}
 use Rattle.records.specs.Framing.{framed}
 use Rattle.cases.specs.Cases.{told}
 use Rattle.cases.proofs.worked_cases.Goals as goal
+
+pub recorded-requires : goal.recorded-requires
+unfolding le framed change_bytes
+recorded-requires c = (omega arith, rw c.command_of_one.ensures)
+
+pub recorded-requires-2 : goal.recorded-requires-2
+unfolding le framed
+recorded-requires-2 c = (omega arith, refl)
 
 pub returns : goal.returns
 unfolding le framed change_bytes
@@ -17,6 +25,6 @@ returns c = record {
   ship = ap told c.answer-7.ensures;
   ship_past = ap told c.answer-8.ensures;
   payload = c.payload_of.ensures;
-  command = c.record_of.ensures;
-  mark = c.mark_of.ensures;
+  command = rw c.command_of_one.ensures at c.recorded.ensures;
+  mark = c.recorded-2.ensures;
 }

@@ -1,35 +1,48 @@
 // The calls of seats.
-ghost use Rattle.std.specs.Prelude.{◌≡◌, replicate, None, slice_index_or, slice_set};
+ghost use Rattle.std.specs.Prelude.{◌≡◌, ◌<◌, ◌≤◌, replicate, None, slice_index_or, slice_set, MatchResult};
+ghost use Rattle.keepers.specs.declared.faults.KeeperFault.TheVariants.{NoSuchSeat};
 ghost use Rattle.keepers.specs.Calls.{lowest, awaits};
 ghost use Rattle.keepers.specs.Hands.{hand_of, hands};
 ghost use Rattle.keepers.specs.Stages.{awaited};
 
 use super::{Open, Seats};
+use crate::faults::KeeperFault;
 use crate::stages::Stage;
 
 const SEATS: usize = 16;
 
-impl Seats {
-    // All shut.
-    pub fn new() -> Seats
-        ensures { hands result ≡ replicate 16 None }
-    {
-        Seats { each: [None; 16] }
-    }
+impl Default for Seats {
+    ghost is_default = { λ seats. hands seats ≡ replicate 16 None };
 
+    // All shut.
+    fn default() -> Seats {
+        Seats {
+            each: [None; SEATS],
+        }
+    }
+}
+
+impl Seats {
     // What a seat holds, if it is there and open.
     pub fn get(&self, seat: u8) -> Option<Open>
         ensures { hand_of result ≡ slice_index_or (hands self.now) seat None }
     {
-        let s = seat as usize;
-        if s < SEATS { self.each[s] } else { None }
+        self.each.get(usize::from(seat)).copied().flatten()
     }
 
-    // Opens or shuts a seat; one that is not there stays so.
+    // The same of a seat that a caller names; there are seats 0 to 15.
+    pub fn at(&self, seat: u8) -> Result<Option<Open>, KeeperFault>
+        ensures { MatchResult result (λ held. (seat < 16) × (hand_of held ≡ slice_index_or (hands self.now) seat None)) (λ fault. (16 ≤ seat) × (fault ≡ NoSuchSeat seat)) }
+    {
+        let held = self.each.get(usize::from(seat)).copied();
+        held.ok_or(KeeperFault::NoSuchSeat(seat))
+    }
+
+    // Opens or shuts a seat; one that is not there stays so. Written by index: what is written through a slice's `get_mut` is not known to the check.
     pub fn put(&mut self, seat: u8, value: Option<Open>)
         ensures { hands self.new ≡ slice_set (hands self.old) seat (hand_of value) }
     {
-        let s = seat as usize;
+        let s = usize::from(seat);
         if s < SEATS {
             self.each[s] = value;
         }
@@ -39,23 +52,14 @@ impl Seats {
     pub fn awaited(&self, stage: Stage) -> Option<usize>
         ensures { result ≡ lowest (awaits stage) (hands self.now) }
     {
-        for s in 0..SEATS {
-            let at = self.each[s];
-            if is_awaited(stage, at) {
-                return Some(s);
-            }
-        }
-        None
+        self.each.iter().position(|seat| is_awaited(stage, *seat))
     }
 }
 
 fn is_awaited(stage: Stage, seat: Option<Open>) -> bool
     ensures { result ≡ awaits stage (hand_of seat) }
 {
-    match seat {
-        None => false,
-        Some(open) => waits_for(stage, open.began),
-    }
+    seat.is_some_and(|open| waits_for(stage, open.began))
 }
 
 // Whether a turn in `stage` waits for a seat that began in `began`.
@@ -64,8 +68,8 @@ fn waits_for(stage: Stage, began: Stage) -> bool
 {
     match stage {
         Stage::Rest | Stage::Taking => false,
-        Stage::Called => !began.is(Stage::Called),
-        Stage::Pointed => began.is(Stage::Called),
-        Stage::Closing => began.is(Stage::Pointed) || began.is(Stage::Taking),
+        Stage::Called => began != Stage::Called,
+        Stage::Pointed => began == Stage::Called,
+        Stage::Closing => matches!(began, Stage::Pointed | Stage::Taking),
     }
 }

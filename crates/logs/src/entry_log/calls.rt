@@ -27,6 +27,7 @@ impl<'a> Log for EntryLog<'a> {
 
     ghost lawful = { entry_log_lawful };
 
+    #[tactic(auto, using(crate::proofs::EntrySteps::entry_steps))]
     fn append(&mut self, entry: Entry) -> Result<(), LogFault>
         ensures answer { result ≡ verdict one_each (entry_log self.old) entry }
         ensures state { entry_log self.new ≡ append one_each (entry_log self.old) entry }
@@ -34,7 +35,7 @@ impl<'a> Log for EntryLog<'a> {
         ensures memory { self.new.memory.now ≡ (if is_ok result then slice_set self.old.memory.now self.old.count entry else self.old.memory.now) }
     {
         let at = self.count;
-        if at >= self.memory.len() || at >= MOST {
+        if at >= self.memory.len().min(MOST) {
             return Err(LogFault::Full(at));
         }
         self.memory[at] = entry;
@@ -50,11 +51,7 @@ impl<'a> Log for EntryLog<'a> {
     }
 
     fn get(&self, i: usize) -> Option<Entry> {
-        if i < self.count {
-            Some(self.memory[i])
-        } else {
-            None
-        }
+        self.memory[..self.count].get(i).copied()
     }
 
     fn count(&self) -> usize {

@@ -4,7 +4,7 @@ ghost use Rattle.store.specs.States.{state, meaning as meaning_of};
 ghost use Rattle.store.specs.Validity.{Valid as ValidState};
 
 use super::Store;
-use crate::cells::{Cell, End, fresh_cell};
+use crate::cells::{Cell, End};
 use keepers::faults::KeeperFault;
 use keepers::given::Given;
 use keepers::rules::Rules;
@@ -39,7 +39,7 @@ impl<'a, R: Rules> Keeper<'a> for Store<'a, R> {
     }
 
     fn blank(line: R::Line) -> Cell<R::Line, R> {
-        fresh_cell::<R>(line)
+        Cell::<R::Line, R>::fresh(line)
     }
 
     fn open(opening: &[R::Line], memory: &'a mut [Cell<R::Line, R>]) -> Store<'a, R> {
@@ -47,51 +47,51 @@ impl<'a, R: Rules> Keeper<'a> for Store<'a, R> {
     }
 
     fn begin(&mut self, seat: u8) -> Result<(), KeeperFault> {
-        self.begin_seat(seat)
+        self.table.begin_seat(seat)
     }
 
     fn change(&mut self, seat: u8, change: Change) -> Result<(), KeeperFault> {
-        self.change_line(seat, change)
+        self.table.change_line(seat, change)
     }
 
     fn commit(&mut self, seat: u8) -> Result<(), KeeperFault> {
-        self.end_seat(seat, End::Commit)
+        self.table.end_seat(seat, End::Commit)
     }
 
     fn abandon(&mut self, seat: u8) -> Result<(), KeeperFault> {
-        self.end_seat(seat, End::Abandon)
+        self.table.end_seat(seat, End::Abandon)
     }
 
     fn call(&mut self) -> Result<(), KeeperFault> {
-        self.call_out()
+        self.table.call_out()
     }
 
     fn turn(&mut self) -> Result<(), KeeperFault> {
-        self.turn_on()
+        self.table.turn_on()
     }
 
     fn give(&mut self) -> Option<Given<R::Line>> {
-        self.give_out()
+        self.table.give_out()
     }
 
     fn look(&self, line: u16) -> Result<R::Line, KeeperFault> {
-        self.look_at(line)
+        self.table.look_at(line)
     }
 
     fn count(&self) -> usize {
-        self.cells.len()
+        self.table.cells.len()
     }
 
     fn stage(&self) -> Stage {
-        self.clock.stage
+        self.table.clock.stage
     }
 
     fn command(&self, seat: u8) -> Option<Command> {
-        let open = self.seats.get(seat)?;
+        let open = self.table.seats.get(seat)?;
         Some(open.command)
     }
 
     fn waits(&self) -> Option<KeeperFault> {
-        self.awaits()
+        self.table.awaits()
     }
 }

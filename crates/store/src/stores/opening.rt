@@ -5,20 +5,20 @@ ghost use Rattle.store.specs.CellRules.{fresh_cell};
 ghost use Rattle.store.specs.States.{state};
 ghost use Rattle.store.specs.Steps.{new_state};
 
-use super::Store;
-use crate::cells::{Cell, fresh_cell};
+use super::{Store, Table};
+use crate::cells::Cell;
 use keepers::clocks::Clock;
 use keepers::rules::Rules;
 use keepers::seats::Seats;
 use lines::numbered::lawful_front;
 
-// Writes a fresh cell for each line.
+// Writes a fresh cell for each line. The lines go by index: of what is written under a `zip` the check knows nothing afterwards.
 fn fill<R: Rules>(cells: &mut [Cell<R::Line, R>], opening: &[R::Line])
     requires { length cells.old ≤ length opening.now }
     ensures { cells.new ≡ map (fresh_cell R.Rules.method) (take (length cells.old) opening.now) }
 {
-    for i in 0..cells.len() {
-        cells[i] = fresh_cell::<R>(opening[i]);
+    for (i, cell) in cells.iter_mut().enumerate() {
+        *cell = Cell::<R::Line, R>::fresh(opening[i]);
     }
 }
 
@@ -31,12 +31,12 @@ impl<'a, R: Rules> Store<'a, R> {
         let n = lawful_front(opening).min(memory.len().min(R::limit()));
         let (cells, spare) = memory.split_at_mut(n);
         fill::<R>(cells, opening);
-        Store {
+        let table = Table {
             cells,
-            spare,
-            seats: Seats::new(),
-            clock: Clock::new(),
+            seats: Seats::default(),
+            clock: Clock::default(),
             given: n,
-        }
+        };
+        Store { table, spare }
     }
 }

@@ -1,34 +1,34 @@
 // Call, turn, and giving out.
-ghost use Rattle.std.specs.Prelude.{◌≡◌, map};
+ghost use Rattle.std.specs.Prelude.{◌≡◌, ◌<◌, map, length, IfSome};
+ghost use Rattle.std.specs.List.{slice_get};
 ghost use Rattle.logs.specs.Logs.{Untouched};
 ghost use Rattle.keepers.specs.Calls.{Unmoved};
 ghost use Rattle.store.specs.CellRules.{pointed_cell};
-ghost use Rattle.store.specs.States.{state};
+ghost use Rattle.store.specs.States.{state_of};
 ghost use Rattle.store.specs.Steps.{with_cells, called, waits, turned, given_out, at_point};
 
-use super::Store;
-use crate::cells::{given_cell, pointed_cell};
+use super::Table;
+use crate::cells::Cell;
 use keepers::faults::KeeperFault;
 use keepers::given::Given;
 use keepers::rules::Rules;
 use keepers::stages::{Stage, Step};
 
-impl<'a, R: Rules> Store<'a, R> {
+impl<'a, R: Rules> Table<'a, R> {
     // Leads out of Rest.
     pub fn call_out(&mut self) -> Result<(), KeeperFault>
-        ensures state { called R.Rules.method (state self.old) ≡ (result, state self.new) }
+        ensures state { called R.Rules.method (state_of self.old) ≡ (result, state_of self.new) }
         ensures same { Untouched result self.old self.new }
-        ensures spare { self.new.spare.now ≡ self.old.spare.now }
     {
         self.clock.step(Step::Call)
     }
 
     // What a turn waits for, if it does.
     pub fn awaits(&self) -> Option<KeeperFault>
-        ensures { result ≡ waits (state self.now) }
+        ensures { result ≡ waits (state_of self.now) }
     {
         let stage = self.clock.stage;
-        if !stage.is(Stage::Taking) {
+        if stage != Stage::Taking {
             let seat = self.seats.awaited(stage)?;
             return Some(KeeperFault::WaitsForSeat(seat));
         }
@@ -42,19 +42,16 @@ impl<'a, R: Rules> Store<'a, R> {
 
     // The method's point, on every cell.
     fn sweep(&mut self)
-        ensures state { state self.new ≡ with_cells (map (pointed_cell R.Rules.method) (state self.old).cells) (state self.old) }
-        ensures spare { self.new.spare.now ≡ self.old.spare.now }
+        ensures { state_of self.new ≡ with_cells (map (pointed_cell R.Rules.method) (state_of self.old).cells) (state_of self.old) }
     {
-        for i in 0..self.cells.len() {
-            let cell = self.cells[i];
-            self.cells[i] = pointed_cell::<R>(cell);
+        for cell in self.cells.iter_mut() {
+            *cell = cell.pointed();
         }
     }
 
     // All lines are due; cells are written only where the method sweeps.
     fn pass_point(&mut self)
-        ensures state { state self.new ≡ at_point R.Rules.method (state self.old) }
-        ensures spare { self.new.spare.now ≡ self.old.spare.now }
+        ensures { state_of self.new ≡ at_point R.Rules.method (state_of self.old) }
     {
         if R::sweeps() {
             self.sweep();
@@ -64,39 +61,41 @@ impl<'a, R: Rules> Store<'a, R> {
 
     // One stage on, or refused while it waits.
     pub fn turn_on(&mut self) -> Result<(), KeeperFault>
-        ensures state { turned R.Rules.method (state self.old) ≡ (result, state self.new) }
+        ensures state { turned R.Rules.method (state_of self.old) ≡ (result, state_of self.new) }
         ensures same { Untouched result self.old self.new }
-        ensures spare { self.new.spare.now ≡ self.old.spare.now }
     {
         let mut clock = self.clock;
         clock.step(Step::Turn)?;
         if let Some(fault) = self.awaits() {
             return Err(fault);
         }
-        if self.clock.stage.is(Stage::Called) {
+        if self.clock.stage == Stage::Called {
             self.pass_point();
         }
         self.clock = clock;
         Ok(())
     }
 
+    // The cell of the line that is given out next.
+    fn next_cell(&self) -> Option<Cell<R::Line, R>>
+        ensures cell { result ≡ slice_get (state_of self.now).cells (state_of self.now).given }
+        ensures there { IfSome result (λ _. (state_of self.now).given < length (state_of self.now).cells) }
+    {
+        self.cells.get(self.given).copied()
+    }
+
     // Gives out the next line that is due; none outside Taking or past the last.
     pub fn give_out(&mut self) -> Option<Given<R::Line>>
-        ensures state { given_out R.Rules.method (state self.old) ≡ (result, state self.new) }
+        ensures state { given_out R.Rules.method (state_of self.old) ≡ (result, state_of self.new) }
         ensures same { Unmoved result self.old self.new }
-        ensures spare { self.new.spare.now ≡ self.old.spare.now }
     {
-        if !self.clock.stage.is(Stage::Taking) {
+        if self.clock.stage != Stage::Taking {
             return None;
         }
-        let i = self.given;
-        if i >= self.cells.len() {
-            return None;
-        }
-        let cell = self.cells[i];
+        let cell = self.next_cell()?;
         let given = cell.own.gives(self.clock);
-        self.cells[i] = given_cell::<R>(cell, self.clock);
-        self.given = i + 1;
+        self.cells[self.given] = cell.given(self.clock);
+        self.given += 1;
         Some(given)
     }
 }

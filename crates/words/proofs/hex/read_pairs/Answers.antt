@@ -1,23 +1,20 @@
-use Rattle.std.proofs.Common.{vec_items, sym, ◌∙◌, arith, rules}
-use Rattle.words.proofs.Pairs.{pairs_some, pairs_none, pairs-odd, pairs_end}
+use Rattle.std.proofs.Common.{◌/◌, length, vec_items, sym, ◌∙◌, arith, rules}
+use Rattle.words.proofs.Pairs.{pairs_start, pairs_odd, pair_some, pair_none, pairs_end}
 use Rattle.words.proofs.hex.read_pairs.Goals as goal
 
 pub returns-in_default : goal.returns-in_default
-returns-in_default c =
-    let none = pairs_none c.args.word.now c.loop-i.i (vec_items c.loop-i.bytes) c.loop-i-test.true (search rules) in
-    sym (sym c.loop-i.invariant.1 ∙ none)
+returns-in_default c = sym (pairs_odd (length c.args.word.now / 2) c.args.word.now (omega arith))
 
-pub loop-i-preserved : goal.loop-i-preserved
-loop-i-preserved c =
-    let more = pairs_some c.args.word.now c.loop-i.i (vec_items c.loop-i.bytes) c.in-Some.b c.loop-i-test.true c.in-Some.ensures in
-    (omega arith, rw c.in_ok-push.ensures.items (sym more ∙ c.loop-i.invariant.1))
+pub loop-c-init : goal.loop-c-init
+loop-c-init c = rw (c.new-bytes.ensures.items, c.as_chunks.ensures.front) (pairs_start (length c.args.word.now / 2) c.args.word.now (omega arith))
 
-pub returns-then-i-word : goal.returns-then-i-word
-returns-then-i-word c =
-    let none = pairs-odd c.args.word.now c.loop-i.i (vec_items c.loop-i.bytes) c.if-i-word.true c.loop-i-test.false in
-    sym (sym c.loop-i.invariant.1 ∙ none)
+pub returns-in_default-byte : goal.returns-in_default-byte
+returns-in_default-byte c = sym (sym c.loop-c.invariant ∙ pair_none c.as_chunks.result.0.now c.loop-c.c-index (vec_items c.loop-c.bytes) c.loop-c-test.true (search rules))
+
+pub loop-c-preserved : goal.loop-c-preserved
+loop-c-preserved c =
+    let more = pair_some c.as_chunks.result.0.now c.loop-c.c-index (vec_items c.loop-c.bytes) c.loop-c-test.true c.in-Some.b c.in-Some.ensures in
+    rw c.in_ok-push.ensures.items (sym more ∙ c.loop-c.invariant)
 
 pub returns : goal.returns
-returns c =
-    let end = pairs_end c.args.word.now c.loop-i.i (vec_items c.loop-i.bytes) c.if-i-word.false in
-    sym (sym c.loop-i.invariant.1 ∙ end)
+returns c = sym (sym c.loop-c.invariant ∙ pairs_end c.as_chunks.result.0.now c.loop-c.c-index (vec_items c.loop-c.bytes) c.loop-c-test.false)

@@ -1,10 +1,8 @@
-use Rattle.std.proofs.Common.{◌≡◌, ◌-◌, ◌≤◌, length, drop, vec_items}
+use Rattle.std.proofs.Common.{◌≡◌, drop, vec_items}
 use Rattle.words.specs.Hex.{behind_all, pairs}
+use Rattle.words.proofs.Pairs.{of_pairs}
 use Rattle.words.proofs.hex.read_pairs.Given as goal
 
--- what is left of the word, behind the bytes so far, gives what all of it gives
-abbrev pub invariant-loop-i : goal.invariant-loop-i
-invariant-loop-i l = (l.i ≤ length l.word) × (behind_all (vec_items l.bytes) (pairs (drop l.i l.word)) ≡ pairs l.word)
-
-abbrev pub decreases-loop-i : goal.decreases-loop-i
-decreases-loop-i l = length l.word - l.i
+-- the pairs that are left, behind the bytes so far, give what all of the word gives
+abbrev pub invariant-loop-c : goal.invariant-loop-c
+invariant-loop-c l = behind_all (vec_items l.bytes) (of_pairs (drop l.c-index l.pairs)) ≡ pairs l.word

@@ -1,18 +1,16 @@
-use Rattle.std.proofs.Common.{◌∙◌}
-use native.Mathlib.Nat.{sub-zero}
+use Rattle.std.proofs.Common.{sym}
 use Rattle.std.proofs.lemmas.List.{take_rest}
-use Rattle.words.proofs.Cuts.{cut_here, uncut_more, cut_nowhere, beyond_shorter}
+use Rattle.words.proofs.Cuts.{cut_some, cut_none}
 use Rattle.words.proofs.pieces.cut_at.Goals as goal
 
-pub returns-then-b-mark : goal.returns-then-b-mark
-returns-then-b-mark c =
-    let cut = cut_here c.args.mark c.args.bytes.now c.loop-i.i c.loop-i.invariant c.loop-i-test.true c.if-b-mark.true in
-    record { front = rw sub-zero cut.0; back = rw take_rest cut.1; shorter = λ h. rw (take_rest, cut.1) (beyond_shorter c.args.mark c.args.bytes.now h) }
+pub returns-in-Some-clause-front : goal.returns-in-Some-clause-front
+returns-in-Some-clause-front c = sym (cut_some c.args.mark c.args.bytes.now c.in-Some.i c.in-Some.ensures).0
 
-pub loop-i-preserved : goal.loop-i-preserved
-loop-i-preserved c = uncut_more c.args.mark c.args.bytes.now c.loop-i.i c.loop-i.invariant c.loop-i-test.true c.if-b-mark.false
+pub returns-in-Some-clause-back : goal.returns-in-Some-clause-back
+returns-in-Some-clause-back c = rw take_rest (sym (cut_some c.args.mark c.args.bytes.now c.in-Some.i c.in-Some.ensures).1)
 
-pub returns : goal.returns
-returns c =
-    let cut = cut_nowhere c.args.mark c.args.bytes.now c.loop-i.i c.loop-i.invariant c.loop-i-test.false in
-    record { front = c.split_at.ensures.front ∙ cut.0; back = c.split_at.ensures.back ∙ cut.1; shorter = λ h. rw (c.split_at.ensures.back, cut.1) (beyond_shorter c.args.mark c.args.bytes.now h) }
+pub returns-in-None-clause-front : goal.returns-in-None-clause-front
+returns-in-None-clause-front c = sym (cut_none c.args.mark c.args.bytes.now c.in-None.ensures).0
+
+pub returns-in-None-clause-back : goal.returns-in-None-clause-back
+returns-in-None-clause-back c = sym (cut_none c.args.mark c.args.bytes.now c.in-None.ensures).1

@@ -1,5 +1,4 @@
-use Rattle.std.proofs.Common.{◌≡◌, min, length, sym, refl, ap, ◌∙◌, arith}
-use native.Mathlib.Nat.{sub-zero}
+use Rattle.std.proofs.Common.{min, length, sym, ap, ◌∙◌, arith}
 use Rattle.logs.specs.ByteLogs.{byte_capacity}
 use Rattle.logs.proofs.ByteRuns.{front}
 use Rattle.logs.proofs.byte_log.ByteLog.open.Goals as goal
@@ -7,15 +6,13 @@ use Rattle.logs.proofs.byte_log.ByteLog.open.Goals as goal
 pub invariant_of-result : goal.invariant_of-result
 invariant_of-result c =
     let m = c.args.memory.now in
-    let end : c.cut.result ≡ min c.args.u (byte_capacity m) = c.cut.ensures in
-    let run = front m c.cut.result (rw sub-zero at c.scan-run.ensures.longest) in
-    let used = rw sub-zero at c.scan-run.ensures.len in
-    let count = rw sub-zero at c.scan-run.ensures.count in
-    record { inside = omega (arith, run.within); few = omega (arith, run.within); whole = rw (used, run.again, run.whole); counted = count ∙ ap length (sym (rw used run.again)) }
+    let s = c.scan-run.ensures in
+    let run = front m (min c.args.u (byte_capacity m)) c.scan-run.result.len c.usable.result.now c.usable.ensures s.longest s.len in
+    record { inside = omega (arith, run.within); few = omega (arith, run.within); whole = run.whole; counted = s.count ∙ ap length (sym run.again) }
 
-pub returns : goal.returns
-returns c =
+pub returns-clause-state : goal.returns-clause-state
+returns-clause-state c =
     let m = c.args.memory.now in
-    let run = front m c.cut.result (rw sub-zero at c.scan-run.ensures.longest) in
-    let used = rw sub-zero at c.scan-run.ensures.len in
-    record { state = rw (used, run.again, c.cut.ensures); memory = refl }
+    let s = c.scan-run.ensures in
+    let run = front m (min c.args.u (byte_capacity m)) c.scan-run.result.len c.usable.result.now c.usable.ensures s.longest s.len in
+    rw (run.again, c.usable.ensures)

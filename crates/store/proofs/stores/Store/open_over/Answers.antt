@@ -22,6 +22,6 @@ returns g c =
     let inside : k ≤ length opening = omega (arith, front) in
     let cells = c.fill.ensures ∙ ap (λ i. map (fresh_cell g.R.Rules.method) (take i opening)) c.split_at_mut-cells.ensures.front_len in
     record {
-      state = opened_is g.R.Rules.method opening k inside _ _ _ _ n cells c.new.ensures c.new-2.ensures;
+      state = opened_is g.R.Rules.method opening k inside _ _ _ _ n cells c.default.ensures c.default-2.ensures;
       spare = sym (ap (drop k) c.split_at_mut-cells.ensures.value ∙ drop_at c.split_at_mut-cells.result.0.now c.split_at_mut-cells.result.1.now k (c.split_at_mut-cells.ensures.front_len ∙ n));
     }

@@ -2,9 +2,5 @@ use Rattle.store.specs.States.{state}
 use Rattle.store.proofs.Changes.{changes_shown}
 use Rattle.store.proofs.stores.keeping.StoreKeeper.change.Goals as goal
 
-pub returns : goal.returns
-returns g c = record {
-  state = λ v. changes_shown g.R.Rules.method g.R.Rules.sound g.met.R.Rules.lawful g.R.Line.Line.changed c.args.seat c.args.change (state c.args.self.now) v _ _ c.change_line.ensures.state;
-  same = c.change_line.ensures.same;
-  spare = c.change_line.ensures.spare;
-}
+pub returns-clause-state : goal.returns-clause-state
+returns-clause-state g c = λ v. changes_shown g.R.Rules.method g.R.Rules.sound g.met.R.Rules.lawful g.R.Line.Line.changed c.args.seat c.args.change (state c.args.self.now) v _ _ c.change_line.ensures.state

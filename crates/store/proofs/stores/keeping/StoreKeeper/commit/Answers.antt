@@ -2,9 +2,5 @@ use Rattle.store.specs.States.{state}
 use Rattle.store.proofs.Ends.{commits_shown}
 use Rattle.store.proofs.stores.keeping.StoreKeeper.commit.Goals as goal
 
-pub returns : goal.returns
-returns g c = record {
-  state = λ v. commits_shown g.R.Rules.method g.R.Rules.sound g.met.R.Rules.lawful g.R.Line.Line.changed c.args.seat (state c.args.self.now) v _ _ c.end_seat.ensures.state;
-  same = c.end_seat.ensures.same;
-  spare = c.end_seat.ensures.spare;
-}
+pub returns-clause-state : goal.returns-clause-state
+returns-clause-state g c = λ v. commits_shown g.R.Rules.method g.R.Rules.sound g.met.R.Rules.lawful g.R.Line.Line.changed c.args.seat (state c.args.self.now) v _ _ c.end_seat.ensures.state

@@ -4,4 +4,4 @@ use Rattle.store.specs.CellRules.{committed_of}
 use Rattle.store.proofs.stores.keeping.StoreKeeper.count.Goals as goal
 
 pub returns : goal.returns
-returns g c = sym (length-map c.args.self.now.cells.now (committed_of g.R.Rules.method))
+returns g c = sym (length-map c.args.self.now.table.cells.now (committed_of g.R.Rules.method))

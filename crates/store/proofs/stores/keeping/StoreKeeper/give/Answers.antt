@@ -2,9 +2,5 @@ use Rattle.store.specs.States.{state}
 use Rattle.store.proofs.Gives.{gives_shown}
 use Rattle.store.proofs.stores.keeping.StoreKeeper.give.Goals as goal
 
-pub returns : goal.returns
-returns g c = record {
-  state = λ v. gives_shown g.R.Rules.method g.R.Rules.sound g.met.R.Rules.lawful g.R.Line.Line.changed (state c.args.self.now) v _ _ c.give_out.ensures.state;
-  same = c.give_out.ensures.same;
-  spare = c.give_out.ensures.spare;
-}
+pub returns-clause-state : goal.returns-clause-state
+returns-clause-state g c = λ v. gives_shown g.R.Rules.method g.R.Rules.sound g.met.R.Rules.lawful g.R.Line.Line.changed (state c.args.self.now) v _ _ c.give_out.ensures.state

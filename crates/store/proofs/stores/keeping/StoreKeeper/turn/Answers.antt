@@ -2,9 +2,5 @@ use Rattle.store.specs.States.{state}
 use Rattle.store.proofs.Turns.{turns_shown}
 use Rattle.store.proofs.stores.keeping.StoreKeeper.turn.Goals as goal
 
-pub returns : goal.returns
-returns g c = record {
-  state = λ v. turns_shown g.R.Rules.method g.R.Rules.sound g.met.R.Rules.lawful g.R.Line.Line.changed (state c.args.self.now) v _ _ c.turn_on.ensures.state;
-  same = c.turn_on.ensures.same;
-  spare = c.turn_on.ensures.spare;
-}
+pub returns-clause-state : goal.returns-clause-state
+returns-clause-state g c = λ v. turns_shown g.R.Rules.method g.R.Rules.sound g.met.R.Rules.lawful g.R.Line.Line.changed (state c.args.self.now) v _ _ c.turn_on.ensures.state

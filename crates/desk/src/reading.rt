@@ -84,6 +84,7 @@ fn read_words(heap: Global, words: &[&[u8]], entries: &mut Vec<Entry<Step>>) -> 
     Ok(())
 }
 
+// The arms differ in the type of the group, as the two of `read_task` do.
 fn read_in_group(heap: Global, words: &[&[u8]], step: &mut Step) -> Result<(), Unread> {
     match step {
         Step::Accounts(Task::Group(group)) => group.read(heap, words),

@@ -4,7 +4,7 @@ ghost use Rattle.std.proofs.Common.{arith};
 ghost use Rattle.lines.specs.Bytes.{le, whole, put, room, both};
 ghost use Rattle.lines.specs.Numbers.{length-le, whole_other};
 
-// An unsigned number that takes a fixed number of bytes.
+// An unsigned number that takes a fixed number of bytes. Each type has an impl of its own, since the library converts each by methods of that type alone.
 pub trait Number: Copy {
     ghost WIDTH: { ℕ };
 

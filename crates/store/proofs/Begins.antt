@@ -7,7 +7,7 @@ use Rattle.keepers.specs.declared.clocks.Clock.{Clock}
 use Rattle.keepers.specs.declared.faults.KeeperFault.{KeeperFault}
 use Rattle.keepers.specs.declared.faults.KeeperFault.TheVariants.{NoSuchSeat, SeatOpen, Quiet}
 use Rattle.keepers.specs.declared.stages.Stage.{Stage}
-use Rattle.keepers.specs.declared.stages.Stage.TheVariants.{Rest, Called, Pointed, Taking, Closing}
+use Rattle.keepers.specs.declared.stages.Stage.TheVariants.{Called}
 use Rattle.keepers.specs.Calls.{begins, first, with_seat}
 use Rattle.keepers.specs.Meanings.{Hand, names, changes_of_hand}
 use Rattle.keepers.specs.Methods.{Method, began_in}
@@ -20,20 +20,10 @@ use Rattle.store.proofs.Reseating.{passed, seat_within, all-seats, part_frame}
 use Rattle.store.proofs.Seeing.{sits_frame}
 
 begin_allowed : (quiet : Bool) (g : Stage) → (quiet && same g Called) ≡ false → allowed quiet g g ≡ true
-begin_allowed true Rest e = refl
-begin_allowed true Called e = let z : ◌≡◌ {A = ℕ} 0 1 = cc in absurd (omega arith)
-begin_allowed true Pointed e = refl
-begin_allowed true Taking e = refl
-begin_allowed true Closing e = refl
-begin_allowed false Rest e = refl
-begin_allowed false Called e = refl
-begin_allowed false Pointed e = refl
-begin_allowed false Taking e = refl
-begin_allowed false Closing e = refl
+begin_allowed quiet g e = grind arith
 
 shut_part : (h : Option Hand) (j : ℕ) → is_some h ≡ false → None ≡ part j h
-shut_part None j e = refl
-shut_part (Some h) j e = let z : ◌≡◌ {A = ℕ} 0 1 = cc in absurd (omega arith)
+shut_part h j e = grind arith
 
 module _ {L O : Type 0} (m : Method L O) (sound : Clock → Bool → Option Stage → L → O → Type 0) (f : L → ℕ → ℕ → Outcome L) (s : ℕ) (t : State L O) (v : Valid m sound f t) where
   abbrev newly : Option Hand

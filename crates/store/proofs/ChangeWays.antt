@@ -22,8 +22,7 @@ use Rattle.store.proofs.Altering.{alter-set, nth_none}
 
 -- what finding a cell says of it
 pub found_cell : {L O : Type 0} (i : ℕ) (x : Cell L O) (o : Option (Cell L O)) → Ok x ≡ cell_of i o → o ≡ Some x
-found_cell i x None e = let z : ◌≡◌ {A = ℕ} 0 1 = cc in absurd (omega arith)
-found_cell i x (Some y) e = cc
+found_cell i x o e = grind arith
 
 pub no_cell : {L O : Type 0} (i : ℕ) (fault : LineFault) (o : Option (Cell L O)) → Err fault ≡ cell_of i o → (o ≡ None) × (fault ≡ NoSuchLine i)
 no_cell i fault None e = (refl, cc)

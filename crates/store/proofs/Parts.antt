@@ -7,8 +7,7 @@ use Rattle.store.specs.Validity.{only, part}
 
 -- tests joined by or
 pub or_false : (b : Bool) → (b || false) ≡ b
-or_false true = refl
-or_false false = refl
+or_false b = grind arith
 
 pub only_none : (cs : List Change) (j : ℕ) → names cs j ≡ false → only j cs ≡ []
 only_none [] j e = refl

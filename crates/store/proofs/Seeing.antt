@@ -3,7 +3,7 @@ use Rattle.std.proofs.Common.{◌≡◌, ℕ, ◌<◌, Bool, true, false, cond, 
 use Rattle.std.specs.Option.{option_map}
 use Rattle.std.specs.List.{slice_get}
 use Rattle.std.proofs.lemmas.List.{length-map}
-use Rattle.std.proofs.lemmas.Bool.{eq-eqb, eqb-true, ne_eqb, cases_Bool, cases_eq, not-false}
+use Rattle.std.proofs.lemmas.Bool.{eq-eqb, eqb-true, cases_Bool, not-false}
 use Rattle.lines.specs.Changing.{Outcome}
 use Rattle.lines.specs.Numbered.{after}
 use Rattle.std.proofs.lemmas.Option.{slice_get-map}
@@ -29,15 +29,13 @@ nth_of_map g xs j y e = from (slice_get xs j) refl (sym (slice_get-map g xs j) �
     from (Some x) is p = (x, is, cc)
 
 pub eqb_sym : (a b : ℕ) → eqb a b ≡ eqb b a
-eqb_sym a b = elim (cases_eq a b) [ inl e ↦ eq-eqb a b e ∙ sym (eq-eqb b a (sym e)) | inr n ↦ ne_eqb a b n ∙ sym (ne_eqb b a (λ e. n (sym e))) ]
+eqb_sym a b = grind arith
 
 cond_false : (b : Bool) → cond b false false ≡ false
-cond_false true = refl
-cond_false false = refl
+cond_false b = grind arith
 
 cond_self : (b : Bool) → cond b false b ≡ false
-cond_self true = refl
-cond_self false = refl
+cond_self b = grind arith
 
 -- a part's stage of beginning is its seat's
 pub part-began : (quiet : Bool) (g : Stage) (j : ℕ) (h : Option Hand) (w : Hand) → part j h ≡ Some w → began_in quiet g (option_map (λ v. v.began) h) ≡ true → allowed quiet g w.began ≡ true

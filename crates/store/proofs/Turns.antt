@@ -29,31 +29,7 @@ use Rattle.store.proofs.Seeing.{nth_of_map, part-began}
 
 -- a turn lets a seat pass only into a stage where it can be open
 onward_allowed : (quiet : Bool) (g b : Stage) → allowed quiet g b ≡ true → awaited g b ≡ false → allowed quiet (onward g) b ≡ true
-onward_allowed quiet Rest Rest may gone = refl
-onward_allowed quiet Rest Called may gone = let z : ◌≡◌ {A = ℕ} 0 1 = cc in absurd (omega arith)
-onward_allowed quiet Rest Pointed may gone = let z : ◌≡◌ {A = ℕ} 0 1 = cc in absurd (omega arith)
-onward_allowed quiet Rest Taking may gone = let z : ◌≡◌ {A = ℕ} 0 1 = cc in absurd (omega arith)
-onward_allowed quiet Rest Closing may gone = refl
-onward_allowed quiet Called Rest may gone = let z : ◌≡◌ {A = ℕ} 0 1 = cc in absurd (omega arith)
-onward_allowed quiet Called Called may gone = may
-onward_allowed quiet Called Pointed may gone = refl
-onward_allowed quiet Called Taking may gone = let z : ◌≡◌ {A = ℕ} 0 1 = cc in absurd (omega arith)
-onward_allowed quiet Called Closing may gone = let z : ◌≡◌ {A = ℕ} 0 1 = cc in absurd (omega arith)
-onward_allowed quiet Pointed Rest may gone = let z : ◌≡◌ {A = ℕ} 0 1 = cc in absurd (omega arith)
-onward_allowed quiet Pointed Called may gone = let z : ◌≡◌ {A = ℕ} 0 1 = cc in absurd (omega arith)
-onward_allowed quiet Pointed Pointed may gone = refl
-onward_allowed quiet Pointed Taking may gone = refl
-onward_allowed quiet Pointed Closing may gone = let z : ◌≡◌ {A = ℕ} 0 1 = cc in absurd (omega arith)
-onward_allowed quiet Taking Rest may gone = let z : ◌≡◌ {A = ℕ} 0 1 = cc in absurd (omega arith)
-onward_allowed quiet Taking Called may gone = let z : ◌≡◌ {A = ℕ} 0 1 = cc in absurd (omega arith)
-onward_allowed quiet Taking Pointed may gone = refl
-onward_allowed quiet Taking Taking may gone = refl
-onward_allowed quiet Taking Closing may gone = refl
-onward_allowed quiet Closing Rest may gone = refl
-onward_allowed quiet Closing Called may gone = let z : ◌≡◌ {A = ℕ} 0 1 = cc in absurd (omega arith)
-onward_allowed quiet Closing Pointed may gone = let z : ◌≡◌ {A = ℕ} 0 1 = cc in absurd (omega arith)
-onward_allowed quiet Closing Taking may gone = let z : ◌≡◌ {A = ℕ} 0 1 = cc in absurd (omega arith)
-onward_allowed quiet Closing Closing may gone = refl
+onward_allowed quiet g b may gone = grind arith
 
 stays_open : (quiet : Bool) (g : Stage) (h : Option Hand) → began_in quiet g (option_map (λ w. w.began) h) ≡ true → awaits g h ≡ false
     → began_in quiet (onward g) (option_map (λ w. w.began) h) ≡ true
@@ -66,8 +42,7 @@ lowest_none p [] empty e s = empty
 lowest_none p (x ∷ xs) empty e s = here (p x) refl (λ e. lowest_none p xs empty e) e s
   where
     rest_none : (o : Option ℕ) → option_map (λ s. WaitsForSeat s) (option_map (λ i. suc i) o) ≡ None → option_map (λ s. WaitsForSeat s) o ≡ None
-    rest_none None e = refl
-    rest_none (Some i) e = let z : ◌≡◌ {A = ℕ} 0 1 = cc in absurd (omega arith)
+    rest_none o e = grind arith
 
     here : (b : Bool) → p x ≡ b → (option_map (λ s. WaitsForSeat s) (lowest p xs) ≡ None → (s : ℕ) → p (get_or xs s None) ≡ false)
         → option_map (λ s. WaitsForSeat s) (cond b (Some 0) (option_map (λ i. suc i) (lowest p xs))) ≡ None → (s : ℕ) → p (get_or (x ∷ xs) s None) ≡ false
@@ -76,8 +51,7 @@ lowest_none p (x ∷ xs) empty e s = here (p x) refl (λ e. lowest_none p xs emp
     here false is rest e (suc s) = rest (rest_none (lowest p xs) e) s
 
 never_in_taking : (h : Option Hand) → awaits Taking h ≡ false
-never_in_taking None = refl
-never_in_taking (Some h) = refl
+never_in_taking h = grind arith
 
 -- a turn that does not wait waits for no seat
 none_awaited : (g : Stage) (hs : List (Option Hand)) (r : Option KeeperFault) → cond (same g Taking) r (option_map (λ s. WaitsForSeat s) (lowest (awaits g) hs)) ≡ None
@@ -90,28 +64,18 @@ none_awaited Closing hs r e s = lowest_none (awaits Closing) hs refl e s
 
 -- nor does a call, which is in Rest
 rest_awaits : (g : Stage) (h : Option Hand) → not (same g Rest) ≡ false → awaits g h ≡ false
-rest_awaits Rest None e = refl
-rest_awaits Rest (Some h) e = refl
-rest_awaits Called h e = let z : ◌≡◌ {A = ℕ} 0 1 = cc in absurd (omega arith)
-rest_awaits Pointed h e = let z : ◌≡◌ {A = ℕ} 0 1 = cc in absurd (omega arith)
-rest_awaits Taking h e = let z : ◌≡◌ {A = ℕ} 0 1 = cc in absurd (omega arith)
-rest_awaits Closing h e = let z : ◌≡◌ {A = ℕ} 0 1 = cc in absurd (omega arith)
+rest_awaits g h e = grind arith
 
 rest_taking : (g : Stage) → not (same g Rest) ≡ false → g ≡ Taking → ⊥
-rest_taking g rest taking = let e : not (same Taking Rest) ≡ false = ap (λ h. not (same h Rest)) (sym taking) ∙ rest in let z : ◌≡◌ {A = ℕ} 0 1 = cc in omega arith
+rest_taking g rest taking = grind arith
 
 -- and no line is due
 none_due : (b : Bool) (n : ℕ) → cond b None (Some (WaitsForLines n)) ≡ None → b ≡ true
-none_due true n e = refl
-none_due false n e = let z : ◌≡◌ {A = ℕ} 0 1 = cc in absurd (omega arith)
+none_due b n e = grind arith
 
 -- how many lines were given out is not asked of Rest and Called
 given-onward : (g : Stage) (d : ℕ) → same g Called ≡ false → cond (same g Closing) 0 (cond (same g Rest || same g Called) 0 d) ≡ cond (same (onward g) Rest || same (onward g) Called) 0 d
-given-onward Rest d e = refl
-given-onward Called d e = let z : ◌≡◌ {A = ℕ} 0 1 = cc in absurd (omega arith)
-given-onward Pointed d e = refl
-given-onward Taking d e = refl
-given-onward Closing d e = refl
+given-onward g d e = grind arith
 
 -- what counts before a turn other than the point counts after it
 counts-onward : (g : Stage) (d n : ℕ) → same g Called ≡ false → Counts g d n → (g ≡ Taking → d ≡ n) → Counts (onward g) d n

@@ -58,6 +58,6 @@ module _ {L : Type 0} (f : Coding L) (bs : List ℕ) (count : ℕ) where
     lines_on (suc m) k e = rw (is k) (line_on (slice_get vs k) (lines_at f bs count m (suc k)) k refl (omega arith) (lines_on m (suc k) (omega arith)))
 
 -- those of a lawful image
-pub lists_all : {L : Type 0} (f : Coding L) (lawful : Lawful f) (bs : List ℕ) (count : ℕ) (c : Content L) → LawfulImage f c → bs ≡ writing f c → count ≡ length c.lines → lines_at f bs count count 0 ≡ c.lines
+pub lists_all : {L : Type 0} (f : Coding L) (lawful : Lawful f) (bs : List ℕ) (count : ℕ) (c : Content L) → LawfulImage f c → bs ≡ writing f c → count ≡ length c.lines → lines_at f bs count (count - 0) 0 ≡ c.lines
 lists_all f lawful bs count c image is all =
-    lines_on f bs count c.lines (λ k. hands_line f lawful bs count k (line_in_part f (part_of f bs count k)) refl c image is all) count 0 (omega arith)
+    lines_on f bs count c.lines (λ k. hands_line f lawful bs count k (line_in_part f (part_of f bs count k)) refl c image is all) (count - 0) 0 (omega arith)

@@ -36,7 +36,7 @@ use Rattle.keepers.specs.Calls.{first, begins, changes, committed, end_refusals,
 use Rattle.keepers.specs.Faults.{refusal as keeper_refusal}
 use Rattle.keepers.specs.Meanings.{Meaning, changes_in, opened}
 use Rattle.keepers.specs.Stages.{same, number}
-use Rattle.book.specs.Faults.{told}
+use Rattle.lines.specs.Faults.{told}
 
 pub record Setting (L : Type 0) : Type 0 where
   pub coding : Coding L

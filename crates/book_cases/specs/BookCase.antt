@@ -16,7 +16,7 @@ use Rattle.book.specs.Books.{Setting, Book, Call, Answer, new, step}
 use Rattle.book.specs.Books.SeatCall.{begin, change, commit}
 use Rattle.book.specs.Books.Call.{seat, look, call, turn, take}
 use Rattle.book.specs.Books.Answer.{done, line, bytes, refused}
-use Rattle.book.specs.Faults.{told}
+use Rattle.lines.specs.Faults.{told}
 use Rattle.runs.specs.Events.{Event}
 
 abbrev pub played : {L : Type 0} → Setting L → List Call → Book L → List (Answer L)

@@ -92,7 +92,7 @@ fn command_of_one(line: u16, kind: u8, amount: u32) -> Command
     command
 }
 
-// The record of a value that has N bytes. It stands here and not with the records, where it would have to answer for every N.
+// The record of a value that has N bytes. It asks that of its caller, which no public function does: so each crate of cases has its own.
 fn recorded<R: Record, const N: usize>(value: &R::Value) -> [u8; N]
     requires { length (bytes_of R.layout value.now) ≡ N }
     ensures { result ≡ bytes_of R.layout value.now }

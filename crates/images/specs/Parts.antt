@@ -6,9 +6,10 @@
 --   line_offset f k  where the k-th line record stands, from 0: behind a head of 16 bytes, each is 6 bytes longer than a payload
 --   Handed           a line's number, the offset of its payload in the image, and the payload
 --   handing f k v    what is handed out of the k-th line v
+--   WhereLawful f image P   if the image is the writing of lawful content with just its lines, P holds of that content
 --   part_of ..       what is handed out of the k-th of count lines of the image bs, if it is there
 --   line_in_part ..  the line with the number and the payload of a part, if there is one
-use Rattle.std.specs.Prelude.{ℕ, ◌+◌, ◌*◌, cond, ◌&&◌, List, length, take, drop, Some, None, Ok, Err, Option, Result, nat_le, nat_lt}
+use Rattle.std.specs.Prelude.{◌≡◌, ℕ, ◌+◌, ◌*◌, cond, ◌&&◌, List, length, take, drop, Some, None, Ok, Err, Option, Result, nat_le, nat_lt}
 use Rattle.lines.specs.Bytes.{number}
 use Rattle.lines.specs.Coding.{Coding}
 use Rattle.records.specs.declared.heads.Head.{Head}
@@ -17,7 +18,7 @@ use Rattle.records.specs.ImageLines.{line_of}
 use Rattle.images.specs.declared.faults.Unlawful.{Unlawful}
 use Rattle.images.specs.declared.reader.Image.{Image}
 use Rattle.images.specs.declared.reader.Part.{Part}
-use Rattle.images.specs.Images.{Content, head_of}
+use Rattle.images.specs.Images.{Content, LawfulImage, writing, head_of}
 
 pub record Outline : Type 0 where
   pub bytes : List ℕ
@@ -45,6 +46,9 @@ line_offset f k = 16 + k * (6 + f.width)
 
 abbrev pub handing : {L : Type 0} → Coding L → ℕ → ImageLine L → Handed
 handing f k v = record { number = v.number; offset = line_offset f k + 6; payload = f.payload v.line }
+
+abbrev pub WhereLawful : {L : Type 0} → Coding L → Image → (Content L → Type 0) → Type 0
+WhereLawful {L} f image P = (c : Content L) → LawfulImage f c → image.bytes.now ≡ writing f c → image.count ≡ length c.lines → P c
 
 abbrev pub part_of : {L : Type 0} → Coding L → List ℕ → ℕ → ℕ → Option Handed
 part_of f bs count k =

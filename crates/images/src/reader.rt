@@ -2,8 +2,7 @@
 ghost use Rattle.std.specs.Prelude.{◌≡◌, ◌+◌, ◌^◌, ◌<◌, ◌≤◌, length, drop};
 ghost use Rattle.std.specs.List.{slice_get};
 ghost use Rattle.std.specs.Option.{option_map};
-ghost use Rattle.images.specs.Images.{Content, LawfulImage, writing};
-ghost use Rattle.images.specs.Parts.{seen, outlined, handed, handing, part_of, line_in_part};
+ghost use Rattle.images.specs.Parts.{WhereLawful, seen, outlined, handed, handing, part_of, line_in_part};
 ghost use Rattle.images.specs.Walks.{lines_at, lines_left};
 ghost use Rattle.images.specs.Reading.{head_allowed, in_turn, end_of, lines_from, counted, reading, OneImage};
 
@@ -59,7 +58,7 @@ impl<'a> Image<'a> {
     // The part of line k, counted from 0 as the lines stand in the image.
     pub fn part<C: Coded>(self, k: usize) -> Option<Part<'a>>
         ensures answer { option_map handed result ≡ part_of C.Coded.coding self.entry.bytes.now self.entry.count k }
-        ensures lawful { (c : Content C) → LawfulImage C.Coded.coding c → self.entry.bytes.now ≡ writing C.Coded.coding c → self.entry.count ≡ length c.lines → option_map handed result ≡ option_map (handing C.Coded.coding k) (slice_get c.lines k) }
+        ensures lawful { WhereLawful C.Coded.coding self.entry (λ c. option_map handed result ≡ option_map (handing C.Coded.coding k) (slice_get c.lines k)) }
     {
         if k >= usize::from(self.count) {
             return None;
@@ -77,7 +76,7 @@ impl<'a> Image<'a> {
     // Line k itself: its part goes on to the kind's reader.
     pub fn line<C: Coded>(self, k: usize) -> Option<ImageLine<C>>
         ensures answer { result ≡ line_in_part C.Coded.coding (part_of C.Coded.coding self.entry.bytes.now self.entry.count k) }
-        ensures lawful { (c : Content C) → LawfulImage C.Coded.coding c → self.entry.bytes.now ≡ writing C.Coded.coding c → self.entry.count ≡ length c.lines → result ≡ slice_get c.lines k }
+        ensures lawful { WhereLawful C.Coded.coding self.entry (λ c. result ≡ slice_get c.lines k) }
     {
         let part = self.part::<C>(k)?;
         let line = C::read_payload(part.payload)?;
@@ -90,7 +89,7 @@ impl<'a> Image<'a> {
     // All lines, in order.
     pub fn lines<C: Coded>(self) -> Lines<'a, C>
         ensures answer { lines_left C.Coded.coding result ≡ lines_at C.Coded.coding self.entry.bytes.now self.entry.count self.entry.count 0 }
-        ensures lawful { (c : Content C) → LawfulImage C.Coded.coding c → self.entry.bytes.now ≡ writing C.Coded.coding c → self.entry.count ≡ length c.lines → lines_left C.Coded.coding result ≡ c.lines }
+        ensures lawful { WhereLawful C.Coded.coding self.entry (λ c. lines_left C.Coded.coding result ≡ c.lines) }
     {
         Lines {
             image: self,
@@ -146,7 +145,7 @@ fn count_lines<C: Coded>(bytes: &[u8], head: Head, start: usize) -> Result<u16, 
     requires few { head.n ≤ 1024 }
     ensures { result ≡ counted (lines_from C.Coded.coding head head.n 0 0 start (drop start bytes.now)) }
 {
-    // How long a record is shows only once it is read, so that the pass moves on by that length.
+    // A loop with what it has passed beside it, since each line is judged by the number before it, and a refusal is told by the offset.
     let mut offset = start;
     let mut low = 0;
     let mut count = 0;

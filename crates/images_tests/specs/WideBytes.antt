@@ -10,7 +10,7 @@ use Rattle.images_tests.specs.declared.wide.WideLine.{WideLine}
 use Rattle.images_tests.specs.Wide.{decoded, keeps, payload}
 use Rattle.lines.specs.Bytes.{Bytes, le, number, put, room, whole, both}
 use Rattle.lines.proofs.LittleEndian.{length-le, bytes_le, number-le, le-number}
-use Rattle.lines.proofs.Payloads.{length_two, bytes_two, put_behind, put_fits}
+use Rattle.lines.proofs.Payloads.{length_two, bytes_two, put_behind, two_parts, put_fits}
 
 -- the first three numbers
 abbrev three : WideLine → List ℕ
@@ -75,11 +75,27 @@ payload-decoded bs h e =
       further 24 2 bs,
     ) (take_all 26 bs (omega arith))
 
--- two pairs of numbers written one behind the other
+-- four parts written one behind the other
 pub written : (w : WideLine) (out : List ℕ) → 26 ≤ length out
     → (room (payload w) out ≡ Some 26)
-    × (put_mid 16 (length (put (le 8 w.first ++ le 8 w.second) out) - 16) (put (le 8 w.first ++ le 8 w.second) out) (put (le 8 w.third ++ le 2 w.fourth) (drop 16 (put (le 8 w.first ++ le 8 w.second) out))) ≡ put (payload w) out)
+    × (put (payload w) out ≡ put_mid 24 2 (put_mid 16 8 (put_mid 8 8 (le 8 w.first ++ drop 8 out) (le 8 w.second)) (le 8 w.third)) (le 2 w.fourth))
 written w out h =
+    let a = le 8 w.first in
+    let b = le 8 w.second in
+    let c = le 8 w.third in
+    let d = le 2 w.fourth in
+    let second = two_parts 8 8 a b out (length-le 8 w.first) (length-le 8 w.second) in
+    let third = two_parts 16 8 (a ++ b) c out (length_two 8 8 w.first w.second) (length-le 8 w.third) in
+    let fourth = two_parts 24 2 (three w) d out (length_three w) (length-le 2 w.fourth) in
+    let parts = ap (λ m. put_mid 24 2 (put_mid 16 8 m c) d) second ∙ ap (λ m. put_mid 24 2 m d) third ∙ fourth in
+    let whole = put_fits (payload w) out (omega (arith, length-payload w)) in
+    (whole.0 ∙ ap Some (length-payload w), whole.1 ∙ rw (length-payload w) (sym parts))
+
+-- two pairs of numbers written one behind the other
+pub written_pairs : (w : WideLine) (out : List ℕ) → 26 ≤ length out
+    → (room (payload w) out ≡ Some 26)
+    × (put_mid 16 (length (put (le 8 w.first ++ le 8 w.second) out) - 16) (put (le 8 w.first ++ le 8 w.second) out) (put (le 8 w.third ++ le 2 w.fourth) (drop 16 (put (le 8 w.first ++ le 8 w.second) out))) ≡ put (payload w) out)
+written_pairs w out h =
     let front = le 8 w.first ++ le 8 w.second in
     let back = le 8 w.third ++ le 2 w.fourth in
     let whole = put_fits (payload w) out (omega (arith, length-payload w)) in

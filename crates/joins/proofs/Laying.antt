@@ -88,8 +88,3 @@ module _ {L : Type 0} (f : Coding L) (all : List (ImageLine L)) (m : List ℕ) (
 
       pub one_none : (after : List ℕ) → Laid (bytes_of (line_record f) v) out at after None → ⊥
       one_none after put = let p = (put fits_next).0 in cc
-
-    pub all_done : left ≡ [] → (Some at ≡ Some (start + length (lines_bytes f all))) × (out ≡ overwritten m start (lines_bytes f all))
-    all_done is =
-        let whole : s.done ≡ lines_bytes f all = sym (append-nil s.done) ∙ ap (λ vs. s.done ++ lines_bytes f vs) (sym is) ∙ s.total in
-        (ap Some (s.here ∙ ap (λ x. start + length x) whole), s.held ∙ ap (λ x. overwritten m start x) whole)

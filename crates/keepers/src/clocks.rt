@@ -6,7 +6,7 @@ ghost use Rattle.keepers.specs.Stages.{stepped, verdict};
 use crate::faults::KeeperFault;
 use crate::stages::{Stage, Step};
 
-// The stage; whether the number of points passed is odd; and a sense that turns over at the end of each round, against which a method may read a bit of a cell.
+// What the methods are defined by, bit by bit: the stage; whether the number of points passed is odd; and a sense that turns over at the end of each round, against which a method may read a bit of a cell.
 #[derive(Clone, Copy)]
 pub struct Clock {
     pub stage: Stage,

@@ -12,7 +12,8 @@ use lines::traits::Line;
 // The most lines that a method may keep; each says for itself how many it does.
 pub const MOST_LINES: usize = 1024;
 
-// What a cell keeps of its line beside its holder and its before line, and the method's rules on it.
+// What a cell keeps of its line beside its holder and its before line, and the method's rules on it. A rule takes of clock and stage of beginning what its definition takes,
+// which for most is the clock alone.
 pub trait Rules: Copy {
     type Line: Line;
 

@@ -13,7 +13,7 @@ pub struct Open {
     pub command: Command,
 }
 
-// Seats 0 to 15, each open or not. Clauses see them by `hands`; as a model it would hide of two equal keepers what their commands hold past the changes so far.
+// Seats 0 to 15, each open or not: as many as there are, by value, since nothing is allocated. Clauses see them by `hands`; as a model it would hide of two equal keepers what their commands hold past the changes so far.
 #[derive(Clone, Copy)]
 pub struct Seats {
     each: [Option<Open>; 16],

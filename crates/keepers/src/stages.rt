@@ -37,7 +37,7 @@ impl From<Stage> for usize {
 }
 
 impl Stage {
-    // One stage on: a call leads out of Rest, turns lead round to it again.
+    // One stage on: a call leads out of Rest, turns lead round to it again. The machine rewrites itself in place, so that there is no stage that a caller forgets to put back.
     pub fn step(&mut self, step: Step) -> Result<(), KeeperFault>
         ensures answer { result ≡ verdict (stepped step self.old) }
         ensures state { self.new ≡ settled self.old (stepped step self.old) }

@@ -77,5 +77,5 @@ le_8 n = simp div-div-eq-div-mul
 pub whole_some : (k : ℕ) (bs : List ℕ) (n : ℕ) → Some n ≡ whole k bs → number bs ≡ n
 whole_some k bs n h = elim (cases_Bool (eqb (length bs) k)) [
   | inl t ↦ let e : Some n ≡ Some (number bs) = rw t at h in cc
-  | inr f ↦ let e : Some n ≡ None = rw f at h in let z : ◌≡◌ {A = ℕ} 0 1 = cc in absurd (omega arith)
+  | inr f ↦ let e : Some n ≡ None = rw f at h in absurd (cc)
 ]

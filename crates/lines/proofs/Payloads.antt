@@ -35,7 +35,7 @@ module _ {L : Type 0} (decode : List ℕ → L) (keeps : L → Bool) (payload : 
             let p = and_parts (keeps (decode bs)) (same (payload (decode bs)) bs) t in
             let e : decode bs ≡ x = cc in
             (rw e at p.0, rw e at (same_true (payload (decode bs)) bs p.1))
-        | inr f ↦ let z : ◌≡◌ {A = ℕ} 0 1 = cc in absurd (omega arith)
+        | inr f ↦ absurd (cc)
       ]
 
   -- bytes that are no payload of what they decode to are not read
@@ -100,8 +100,7 @@ module _ (j k : ℕ) where
     pub unread : length (payload (decode bs)) ≡ j + k → None ≡ read_two bs → read_by decode keeps payload bs ≡ None
     unread long none = read_none decode keeps payload bs (λ e.
         let there = two_there bs (sym e ∙ long) in
-        let z : ◌≡◌ {A = ℕ} 0 1 = cc in
-        absurd (omega arith))
+        absurd (cc))
 
     pub was_read : (m n : ℕ) → Some (m, n) ≡ read_two bs → (length bs ≡ j + k) × (number (take j bs) ≡ m) × (number (drop j bs) ≡ n)
     was_read m n some = elim (cases_Bool (eqb (length bs) (j + k))) [
@@ -111,9 +110,8 @@ module _ (j k : ℕ) where
           let p : ◌≡◌ {A = ℕ × ℕ} (number (take j bs), number (drop j bs)) (m, n) = cc in
           (long, ap (λ q. q.0) p, ap (λ q. q.1) p)
       | inr f ↦
-          let none = two_not_there bs (λ e. let g = eq-eqb (length bs) (j + k) e in let z : ◌≡◌ {A = ℕ} 0 1 = cc in absurd (omega arith)) in
-          let z : ◌≡◌ {A = ℕ} 0 1 = cc in
-          absurd (omega arith)
+          let none = two_not_there bs (λ e. let g = eq-eqb (length bs) (j + k) e in absurd (cc)) in
+          absurd (cc)
     ]
 
 -- two parts written one behind the other at the front of memory

@@ -9,7 +9,7 @@ module _ {L : Type 0} (keeps : L → Bool) where
   Kept o = (y : L) → o ≡ becomes y → keeps y ≡ true
 
   breaks_kept : Kept breaks
-  breaks_kept y h = let z : ◌≡◌ {A = ℕ} 0 1 = cc in absurd (omega arith)
+  breaks_kept y h = absurd (cc)
 
   judged_kept : (o : Option L) → Kept (judged keeps o)
   judged_kept None y h = breaks_kept y h
@@ -19,7 +19,7 @@ module _ {L : Type 0} (keeps : L → Bool) where
   ]
 
   pub chosen_kept : (rows : List (ℕ × Option L)) (kind : ℕ) → Kept (chosen keeps rows kind)
-  chosen_kept [] kind y h = let z : ◌≡◌ {A = ℕ} 0 1 = cc in absurd (omega arith)
+  chosen_kept [] kind y h = absurd (cc)
   chosen_kept (row ∷ rows) kind y h = elim (cases_Bool (eqb kind row.0)) [
     | inl t ↦ judged_kept row.1 y (rw t at h)
     | inr f ↦ chosen_kept rows kind y (rw f at h)

@@ -16,14 +16,10 @@ pub trait Number: Copy {
 
     // The number that `bytes` hold; none, if there are more or fewer than its width.
     fn read(bytes: &[u8]) -> Option<Self>
-    where
-        Self: Sized,
         ensures { result ≡ reading bytes.now };
 
     // Writes the number at the front of `out` and answers its width; none, with nothing written, where it does not fit.
     fn write(self, out: &mut [u8]) -> Option<usize>
-    where
-        Self: Sized,
         ensures answer { result ≡ room (writing self) out.old }
         ensures after { out.new ≡ put (writing self) out.old };
 

@@ -32,8 +32,6 @@ pub trait Coded: Copy {
 
     // The line, if it keeps its rule.
     fn kept(self) -> Option<Self>
-    where
-        Self: Sized,
         ensures { result ≡ (if coding.keeps self then Some self else None) }
     {
         self.keeps_rule().then_some(self)

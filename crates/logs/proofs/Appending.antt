@@ -57,7 +57,7 @@ module _ (l : ByteLog) (e : Entry) (end : ℕ) (cap : end ≡ byte_capacity l.me
         let none : logs.room byte_cost (byte_log l) e ≡ false = lt-leb _ _ (omega (arith, used_spent l, long, l.inside, l.few)) in
         let same : held ≡ m = rw (after, (put-short (entry_bytes e) part short).1) (put_same l.used (end - l.used) m) in
         record { answer = rw (none, ← l.counted); state = rw (none, same); memory = same }
-    | inr fits ↦ let e : None ≡ Some _ = answer ∙ (put_fits (entry_bytes e) part fits).0 in let z : ◌≡◌ {A = ℕ} 0 1 = cc in absurd (omega arith)
+    | inr fits ↦ let e : None ≡ Some _ = answer ∙ (put_fits (entry_bytes e) part fits).0 in absurd (cc)
   ]
 
   pub record Accepted (n : ℕ) : Type 0 where
@@ -72,7 +72,7 @@ module _ (l : ByteLog) (e : Entry) (end : ℕ) (cap : end ≡ byte_capacity l.me
   -- else it stands behind what was used, and the log is again sound
   pub accepted : (n : ℕ) → Some n ≡ room (entry_bytes e) part → out ≡ put (entry_bytes e) part → entry_fits e ≡ true → Accepted n
   accepted n answer after fit = elim (cases_lt (length part) (byte_cost e)) [
-    | inl short ↦ let e : Some n ≡ None = answer ∙ (put-short (entry_bytes e) part short).0 in let z : ◌≡◌ {A = ℕ} 0 1 = cc in absurd (omega arith)
+    | inl short ↦ let e : Some n ≡ None = answer ∙ (put-short (entry_bytes e) part short).0 in absurd (cc)
     | inr fits ↦
         let bs = entry_bytes e in
         let rest = drop l.used m in

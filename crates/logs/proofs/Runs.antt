@@ -25,7 +25,7 @@ record Reading (bs : List ℕ) (e : Entry) (n : ℕ) : Type 0 where
   only : Bytes bs → (entry_fits e ≡ true) × (n ≡ byte_cost e) × (take n bs ≡ entry_bytes e)
 
 reading : (bs : List ℕ) (c : Option (Changes × ℕ)) (m : Option (ℕ × ℕ)) (e : Entry) (n : ℕ) → read command_record bs ≡ c → read mark_record bs ≡ m → or_mark c m ≡ Some (e, n) → Reading bs e n
-reading bs None None e n rc rm h = let z : ◌≡◌ {A = ℕ} 0 1 = cc in absurd (omega arith)
+reading bs None None e n rc rm h = absurd (cc)
 reading bs None (Some m) e n rc rm h =
     let same : ◌≡◌ {A = Entry × ℕ} (Mark m.0, m.1) (e, n) = cc in
     let f = found mark_record bs m.0 m.1 rm in

@@ -144,7 +144,7 @@ read_changes_only bs cs typed some = elim (cases_Bool (leb (length bs) 28 && eqb
       let same : changes_in n bs ≡ cs = cc in
       let again = changes_again n bs typed (omega arith) in
       (omega (arith, length-changes_in n bs, ap length same), rw same at again.0, rw same at again.1)
-  | inr f ↦ let e : None ≡ Some cs = rw f at some in let z : ◌≡◌ {A = ℕ} 0 1 = cc in absurd (omega arith)
+  | inr f ↦ let e : None ≡ Some cs = rw f at some in absurd (cc)
 ]
 
 -- what a reader of a body finds: nothing, or as many changes as there are sevens

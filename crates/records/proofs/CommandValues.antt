@@ -1,18 +1,17 @@
 -- Commands with the same changes are equal values, and a command has one reading.
-use Rattle.std.proofs.Common.{◌≡◌, ℕ, ◌+◌, ◌-◌, ◌<◌, ◌≤◌, true, ltb, List, [], ◌∷◌, ◌++◌, length, take, drop, set, replicate, Some, None, Option, sym, refl, ap, ◌∙◌, arith}
+use Rattle.std.proofs.Common.{◌≡◌, ℕ, ◌-◌, ◌≤◌, true, List, [], ◌∷◌, ◌++◌, length, drop, replicate, Some, None, Option, sym, refl, ap, ◌∙◌, arith}
 use mathlib.Core.HLevel.{is_prop→PathP}
 use mathlib.Core.List.{is_set}
 use native.Mathlib.Bridge.{le_prop}
 use native.Mathlib.Nat.{ℕ_set}
 use base.Stored.{Coded-set}
-use Rattle.std.proofs.lemmas.List.{length-take, take-append-drop, drop-set-lt, drop-drop, drop-replicate, take_more_set}
-use Rattle.std.proofs.lemmas.Bool.{lt-ltb}
+use Rattle.std.proofs.lemmas.List.{length-take, take-append-drop}
 use Rattle.lines.specs.Bytes.{Bytes}
 use Rattle.lines.specs.declared.changes.Change.{Change}
 use Rattle.lines.specs.contracts.changes.Change.{the_row}
 use Rattle.records.specs.declared.commands.Command.{Command}
 use Rattle.records.specs.Changes.{no_change, changes_bytes, changes_of_bytes, changes_fit}
-use Rattle.records.specs.Commands.{changes_of, pushed, command_of, command_with, command_in, command_record}
+use Rattle.records.specs.Commands.{changes_of, command_of, command_with, command_in, command_record}
 use Rattle.records.specs.Framing.{LawfulLayout}
 use Rattle.records.proofs.ChangeBytes.{read-changes, read_changes_only, length-changes_bytes, bytes-changes}
 
@@ -22,22 +21,6 @@ length-changes c = simp length-take (omega (arith, c.four, c.short))
 -- a command's slots are its changes and then none
 slots : (c : Command) → changes_of c ++ replicate (4 - c.len) no_change ≡ c.changes
 slots c = rw (← c.padded) (take-append-drop c.len c.changes)
-
--- one change more
-module _ (c : Command) (x : Change) (room : c.len < 4) where
-  pub push_padded : drop (c.len + 1) (set c.changes c.len x) ≡ replicate (4 - (c.len + 1)) no_change
-  push_padded =
-      let less : 4 - c.len - 1 ≡ 4 - (c.len + 1) = omega arith in
-      drop-set-lt (c.len + 1) c.changes c.len x (omega arith)
-      ∙ sym (drop-drop 1 c.len c.changes)
-      ∙ ap (drop 1) c.padded
-      ∙ drop-replicate 1 (4 - c.len) no_change
-      ∙ ap (λ n. replicate n no_change) less
-
-  pub push_changes : take (c.len + 1) (set c.changes c.len x) ≡ pushed (changes_of c) x
-  push_changes =
-      let test : ltb (length (changes_of c)) 4 ≡ true = lt-ltb (length (changes_of c)) 4 (omega (arith, length-changes c)) in
-      take_more_set c.changes c.len x (omega (arith, c.four)) ∙ rw test
 
 pub same_slots : (c d : Command) → c.changes ≡ d.changes → c.len ≡ d.len → c ≡ d
 same_slots c d changes len = λ i. record {
@@ -69,7 +52,7 @@ pub command_is : (c : Command) (cs : List Change) → changes_of c ≡ cs → c 
 command_is c cs e = same-command c (command_of cs) (e ∙ sym (changes_of-command cs (rw e at (few_changes c))))
 
 command_with_some : (o : Option (List Change)) (c : Command) → command_with o ≡ Some c → (cs : List Change) × (o ≡ Some cs) × (command_of cs ≡ c)
-command_with_some None c h = let z : ◌≡◌ {A = ℕ} 0 1 = cc in absurd (omega arith)
+command_with_some None c h = absurd (cc)
 command_with_some (Some cs) c h = (cs, refl, cc)
 
 command_back : (c : Command) → changes_fit (changes_of c) ≡ true → command_in (changes_bytes (changes_of c)) ≡ Some c

@@ -70,9 +70,6 @@ module _ {V : Type 0} (l : Layout V) (bs : List ℕ) where
   pub read_none : None ≡ record_length l.kind bs → None ≡ read l bs
   read_none h = rw (← h)
 
-  pub read_some : (n : ℕ) (o : Option V) → Some n ≡ record_length l.kind bs → o ≡ l.reading (take (n - 4) (drop 4 bs)) → sized n o ≡ read l bs
-  read_some n o h e = rw (← h, e)
-
 -- the length that a record was found to have
 pub record_found : (kind : ℕ) (bs : List ℕ) (n : ℕ) → record_length kind bs ≡ Some n
     → (n ≡ number (take 2 bs)) × (4 ≤ n) × (n ≤ length bs) × (number (take 2 (drop 2 bs)) ≡ kind)
@@ -88,7 +85,7 @@ record_found kind bs n h =
           let least = leb-true 4 m p.0 in
           let most = leb-true m (length bs) q.0 in
           (sym same, omega arith, omega arith, eqb-true k kind q.1)
-      | inr f ↦ let e : None ≡ Some n = rw f at h in let z : ◌≡◌ {A = ℕ} 0 1 = cc in absurd (omega arith)
+      | inr f ↦ let e : None ≡ Some n = rw f at h in absurd (cc)
     ]
 
 -- a record that was found is its frame around its body
@@ -111,7 +108,7 @@ record_framed kind bs n typed h =
 
 -- what a reading with its length was made of
 sized_some : {V : Type 0} (n : ℕ) (o : Option V) (v : V) (m : ℕ) → sized n o ≡ Some (v, m) → (o ≡ Some v) × (n ≡ m)
-sized_some n None v m h = let z : ◌≡◌ {A = ℕ} 0 1 = cc in absurd (omega arith)
+sized_some n None v m h = absurd (cc)
 sized_some n (Some w) v m h =
     let e : ◌≡◌ {A = _ × ℕ} (w, n) (v, m) = cc in
     (ap Some (ap (λ p. p.0) e), ap (λ p. p.1) e)
@@ -119,7 +116,7 @@ sized_some n (Some w) v m h =
 module _ {V : Type 0} (l : Layout V) (bs : List ℕ) where
   -- a value that was read stands behind a record's length
   pub read_found : (o : Option ℕ) (v : V) (n : ℕ) → read_sized l bs o ≡ Some (v, n) → (o ≡ Some n) × (l.reading (take (n - 4) (drop 4 bs)) ≡ Some v)
-  read_found None v n h = let z : ◌≡◌ {A = ℕ} 0 1 = cc in absurd (omega arith)
+  read_found None v n h = absurd (cc)
   read_found (Some m) v n h =
       let p = sized_some m (l.reading (take (m - 4) (drop 4 bs))) v n h in
       (ap Some p.1, rw p.1 at p.0)

@@ -72,14 +72,14 @@ module _ (bs : List ℕ) (typed : Bytes bs) (long : length bs ≡ 12) where
       )
 
   head_found : (o : Option Mode) → mode_of (field 1 1 bs) ≡ o → (h : Head) → head_with bs o ≡ Some h → (head_fits h ≡ true) × (head_body h ≡ bs)
-  head_found None mode h some = let z : ◌≡◌ {A = ℕ} 0 1 = cc in absurd (omega arith)
+  head_found None mode h some = absurd (cc)
   head_found (Some m) mode h some = head_whole m (mode_only (field 1 1 bs) m mode) h some
 
 head_only : (bs : List ℕ) (h : Head) → Bytes bs → head_in bs ≡ Some h → (head_fits h ≡ true) × (head_body h ≡ bs)
 unfolding head_in
 head_only bs h typed some = elim (cases_Bool (eqb (length bs) 12)) [
   | inl t ↦ head_found bs typed (eqb-true (length bs) 12 t) (mode_of (field 1 1 bs)) refl h (rw t at some)
-  | inr f ↦ let e : None ≡ Some h = rw f at some in let z : ◌≡◌ {A = ℕ} 0 1 = cc in absurd (omega arith)
+  | inr f ↦ let e : None ≡ Some h = rw f at some in absurd (cc)
 ]
 
 -- what a reader of a body finds, once it has the mode

@@ -1,13 +1,11 @@
 -- The body of a line in an image: it reads back, and bytes that read as a line are its body.
-use Rattle.std.proofs.Common.{◌≡◌, ℕ, ◌+◌, ◌^◌, ◌<◌, true, ltb, List, ◌++◌, length, take, drop, Some, None, Option, ap, arith}
-use borrow.Rule.Slice.PartMut.{put_mid}
+use Rattle.std.proofs.Common.{◌≡◌, ℕ, ◌+◌, ◌^◌, ◌<◌, true, ltb, List, length, take, drop, Some, None, Option, ap, arith}
 use Rattle.std.proofs.ByRecursion.{All-take}
-use Rattle.std.proofs.lemmas.List.{length-append, append_assoc, take_all, take_at, drop_at, take-append-drop}
+use Rattle.std.proofs.lemmas.List.{length-append, take_at, drop_at, take-append-drop}
 use Rattle.std.proofs.lemmas.Bool.{and_parts, and_from, ltb-true, lt-ltb}
-use Rattle.lines.specs.Bytes.{Bytes, le, whole, put}
+use Rattle.lines.specs.Bytes.{Bytes, le, whole}
 use Rattle.lines.specs.Coding.{Coding, Lawful}
 use Rattle.lines.proofs.LittleEndian.{length-le, bytes_le}
-use Rattle.lines.proofs.Payloads.{put_fits}
 use Rattle.records.specs.declared.image_lines.ImageLine.{ImageLine}
 use Rattle.records.specs.Framing.{LawfulLayout}
 use Rattle.records.specs.ImageLines.{line_body, line_of, line_in, line_fits, line_record}
@@ -16,17 +14,13 @@ use Rattle.records.proofs.OneNumber.{whole_le, whole_only}
 
 -- what a line with its number was made of
 line_parts : {L : Type 0} (o : Option ℕ) (p : Option L) (v : ImageLine L) → line_of o p ≡ Some v → (o ≡ Some v.number) × (p ≡ Some v.line)
-line_parts None p v h = let z : ◌≡◌ {A = ℕ} 0 1 = cc in absurd (omega arith)
-line_parts (Some n) None v h = let z : ◌≡◌ {A = ℕ} 0 1 = cc in absurd (omega arith)
+line_parts None p v h = absurd (cc)
+line_parts (Some n) None v h = absurd (cc)
 line_parts (Some n) (Some x) v h =
     let e : record { number = n; line = x } ≡ v = cc in
     (ap (λ u. Some u.number) e, ap (λ u. Some u.line) e)
 
 module _ {L : Type 0} (f : Coding L) where
-  -- what a reader of a body finds, once it has the number
-  pub line_read : (bs : List ℕ) (n : ℕ) (o : Option L) → Some n ≡ whole 2 (take 2 bs) → o ≡ f.reading (drop 2 bs) → line_of (Some n) o ≡ line_in f bs
-  line_read bs n o h e = rw (← h, e)
-
   module _ (lawful : Lawful f) where
     pub length_line : (v : ImageLine L) → length (line_body f v) ≡ 2 + f.width
     length_line v = rw (length-append, length-le 2 v.number, lawful.long v.line)
@@ -53,16 +47,3 @@ module _ {L : Type 0} (f : Coding L) where
       reads_back = line_back;
       reads_only = line_only;
     }
-
-    -- the front of a buffer that number and payload were written into
-    pub line_written : (n : ℕ) (x : L) (zs : List ℕ) → length zs ≡ 26
-        → take (2 + f.width) (put_mid 2 26 (le 2 n ++ zs) (put (f.payload x) (take 26 (drop 2 (le 2 n ++ zs))))) ≡ le 2 n ++ f.payload x
-    line_written n x zs long =
-        let rest : take 26 (drop 2 (le 2 n ++ zs)) ≡ zs = rw (drop_at (le 2 n) zs 2 (length-le 2 n)) (take_all 26 zs (omega arith)) in
-        let wide = lawful.long x in
-        let fits = put_fits (f.payload x) zs (omega (arith, lawful.width_most)) in
-        let front = take_at (le 2 n) zs 2 (length-le 2 n) in
-        let past = drop (length (f.payload x)) zs ++ drop 26 (drop 2 (le 2 n ++ zs)) in
-        let parts : le 2 n ++ ((f.payload x ++ drop (length (f.payload x)) zs) ++ drop 26 (drop 2 (le 2 n ++ zs))) ≡ (le 2 n ++ f.payload x) ++ past = simp append_assoc in
-        let whole : length (le 2 n ++ f.payload x) ≡ 2 + f.width = rw (length-append, length-le 2 n, wide) in
-        rw (rest, fits.1, front, parts) (take_at (le 2 n ++ f.payload x) past (2 + f.width) whole)

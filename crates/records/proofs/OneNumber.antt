@@ -17,7 +17,7 @@ module _ (k : ℕ) where
         let same : number bs ≡ n = cc in
         let long : length bs ≡ k = eqb-true (length bs) k t in
         (rw (same, long) at (number_lt bs typed), rw (same, long) at (le-number bs typed))
-    | inr f ↦ let e : None ≡ Some n = rw f at h in let z : ◌≡◌ {A = ℕ} 0 1 = cc in absurd (omega arith)
+    | inr f ↦ let e : None ≡ Some n = rw f at h in absurd (cc)
   ]
 
   pub one_number-lawful : (kind : ℕ) → kind ≤ 65535 → k ≤ 28 → LawfulLayout (one_number kind k)

@@ -22,7 +22,7 @@ use Rattle.keepers.specs.Calls.{first, begin_refusals, end_refusals, added, look
 use Rattle.keepers.specs.Meanings.{Hand, Meaning, at_seat, changes_of_hand}
 use Rattle.book.specs.Books.{SeatCall, Setting, Book, Call, Answer, new, step, judged, or_else, hand_over, with_keeper, no_room, command_in, looked, Progress, taken, line_taken, called, in_mode, waits, at_point}
 use Rattle.book.specs.Books.Progress.{nothing, lines_out, all_out}
-use Rattle.book.specs.Faults.{told}
+use Rattle.lines.specs.Faults.{told}
 use Rattle.book.specs.Books.SeatCall.{begin, change, commit, abandon}
 use Rattle.book.specs.Books.Call.{seat, look, call, turn, take}
 use Rattle.book.specs.Books.Answer.{done, bytes}
@@ -41,10 +41,10 @@ seat-set hs s r h within = elim (cases_Bool (eqb s r)) [
 -- from Rest a turn leads to Called
 called_from : (g : Stage) → same g Rest ≡ true → onward g ≡ Called
 called_from Rest e = refl
-called_from Called e = let z : ◌≡◌ {A = ℕ} 0 1 = cc in absurd (omega arith)
-called_from Pointed e = let z : ◌≡◌ {A = ℕ} 0 1 = cc in absurd (omega arith)
-called_from Taking e = let z : ◌≡◌ {A = ℕ} 0 1 = cc in absurd (omega arith)
-called_from Closing e = let z : ◌≡◌ {A = ℕ} 0 1 = cc in absurd (omega arith)
+called_from Called e = absurd (cc)
+called_from Pointed e = absurd (cc)
+called_from Taking e = absurd (cc)
+called_from Closing e = absurd (cc)
 
 -- sixteen seats, and a transcript that leads to the book
 record Led {L : Type 0} (es : List (Event L)) (b : Book L) : Type 0 where
@@ -54,7 +54,7 @@ record Led {L : Type 0} (es : List (Event L)) (b : Book L) : Type 0 where
 -- a call of a seat that is not refused is of one that is there
 seat_there : (s : ℕ) (rest : Option KeeperFault) → cond (leb 16 s) (Some (NoSuchSeat s)) rest ≡ None → leb 16 s ≡ false
 seat_there s rest e = elim (cases_Bool (leb 16 s)) [
-  | inl past ↦ let some : Some (NoSuchSeat s) ≡ None = rw past at e in let z : ◌≡◌ {A = ℕ} 0 1 = cc in absurd (omega arith)
+  | inl past ↦ let some : Some (NoSuchSeat s) ≡ None = rw past at e in absurd (cc)
   | inr here ↦ here
 ]
 
@@ -65,11 +65,11 @@ hand-added c (Some h) = refl
 
 mapped_none : (f : KeeperFault → Refusal) (o : Option KeeperFault) → option_map f o ≡ None → o ≡ None
 mapped_none f None e = refl
-mapped_none f (Some x) e = let z : ◌≡◌ {A = ℕ} 0 1 = cc in absurd (omega arith)
+mapped_none f (Some x) e = absurd (cc)
 
 has_room : (fits : Bool) (r : Refusal) → cond fits None (Some r) ≡ None → fits ≡ true
 has_room true r e = refl
-has_room false r e = let z : ◌≡◌ {A = ℕ} 0 1 = cc in absurd (omega arith)
+has_room false r e = absurd (cc)
 
 hand-changes : (o : Option Hand) → or_none (option_map (λ h. h.changes) o) ≡ changes_of_hand o
 hand-changes None = refl
@@ -77,7 +77,7 @@ hand-changes (Some h) = refl
 
 refused_none : (a b : Option Refusal) → or_else a b ≡ None → (a ≡ None) × (b ≡ None)
 refused_none None b e = (refl, e)
-refused_none (Some r) b e = let z : ◌≡◌ {A = ℕ} 0 1 = cc in absurd (omega arith)
+refused_none (Some r) b e = absurd (cc)
 
 module _ {L : Type 0} (g : Setting L) (es : List (Event L)) (b : Book L) (led : Led es b) where
   abbrev after : Call → Answer L × Book L → Type 0

@@ -11,10 +11,10 @@ module _ {X : Type 0} (f : X → X) where
 
   pub alter_past : (xs : List X) (i : ℕ) → slice_get xs i ≡ None → alter f xs i ≡ xs
   alter_past [] i e = refl
-  alter_past (y ∷ xs) zero e = let z : ◌≡◌ {A = ℕ} 0 1 = cc in absurd (omega arith)
+  alter_past (y ∷ xs) zero e = absurd (cc)
   alter_past (y ∷ xs) (suc i) e = ap (λ zs. y ∷ zs) (alter_past xs i e)
 
 pub nth_none : {X : Type 0} (xs : List X) (i : ℕ) → slice_get xs i ≡ None → length xs ≤ i
 nth_none [] i e = omega arith
-nth_none (y ∷ xs) zero e = let z : ◌≡◌ {A = ℕ} 0 1 = cc in absurd (omega arith)
+nth_none (y ∷ xs) zero e = absurd (cc)
 nth_none (y ∷ xs) (suc i) e = omega (arith, nth_none xs i e)

@@ -37,7 +37,7 @@ module _ {L O : Type 0} (m : Method L O) (sound : Clock → Bool → Option Stag
         counts = v.counts;
         began = all-seats t.seats s within newly (λ h. began_in m.quiet t.clock.stage (option_map (λ w. w.began) h) ≡ true) (begin_allowed m.quiet t.clock.stage loud) v.began;
         inside = all-seats t.seats s within newly (λ h. (j : ℕ) → names (changes_of_hand h) j ≡ true → j < length t.cells)
-            (λ j e. let z : ◌≡◌ {A = ℕ} 0 1 = cc in absurd (omega arith)) v.inside;
+            (λ j e. absurd (cc)) v.inside;
         sits = λ j x there.
             sits_frame m sound f t.seats (set t.seats s newly) t.clock (leb t.given j) j x.own x.holder x.before
             (part_frame t.seats s within newly j (shut_part (hand_at t s) j shut)) (v.sits j x there);

@@ -26,7 +26,7 @@ found_cell i x o e = grind arith
 
 pub no_cell : {L O : Type 0} (i : ℕ) (fault : LineFault) (o : Option (Cell L O)) → Err fault ≡ cell_of i o → (o ≡ None) × (fault ≡ NoSuchLine i)
 no_cell i fault None e = (refl, cc)
-no_cell i fault (Some y) e = let z : ◌≡◌ {A = ℕ} 0 1 = cc in absurd (omega arith)
+no_cell i fault (Some y) e = absurd (cc)
 
 pub unseated : {L O : Type 0} (m : Method L O) (f : L → ℕ → ℕ → Outcome L) (s : ℕ) (c : Change) (t : State L O) (fault : KeeperFault) → Seated (Err fault) s t
     → changed m f s c t ≡ (Err fault, t)

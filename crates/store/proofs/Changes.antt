@@ -56,12 +56,12 @@ record Passed {L : Type 0} (seat shut past other : Bool) (a : Result L LineFault
 
 all_passed : {L : Type 0} (s : ℕ) (c : Change) (seat shut past other four : Bool) (a : Result L LineFault) → table s c seat shut past other four (line_fault a) ≡ None → Passed seat shut past other a
 all_passed s c false false false false false (Ok x) e = record { seat_is = refl; shut_is = refl; past_is = refl; other_is = refl; line = x; takes = refl }
-all_passed s c false false false false false (Err fault) e = let z : ◌≡◌ {A = ℕ} 0 1 = cc in absurd (omega arith)
-all_passed s c false false false false true a e = let z : ◌≡◌ {A = ℕ} 0 1 = cc in absurd (omega arith)
-all_passed s c false false false true four a e = let z : ◌≡◌ {A = ℕ} 0 1 = cc in absurd (omega arith)
-all_passed s c false false true other four a e = let z : ◌≡◌ {A = ℕ} 0 1 = cc in absurd (omega arith)
-all_passed s c false true past other four a e = let z : ◌≡◌ {A = ℕ} 0 1 = cc in absurd (omega arith)
-all_passed s c true shut past other four a e = let z : ◌≡◌ {A = ℕ} 0 1 = cc in absurd (omega arith)
+all_passed s c false false false false false (Err fault) e = absurd (cc)
+all_passed s c false false false false true a e = absurd (cc)
+all_passed s c false false false true four a e = absurd (cc)
+all_passed s c false false true other four a e = absurd (cc)
+all_passed s c false true past other four a e = absurd (cc)
+all_passed s c true shut past other four a e = absurd (cc)
 
 -- a change on a line of a list is refused as the line refuses it
 made_fault : {L : Type 0} (f : L → ℕ → ℕ → Outcome L) (ls : List L) (c : Change) (x : L) → slice_get ls c.line ≡ Some x → (r : Result L LineFault) → change f x c ≡ r

@@ -39,7 +39,7 @@ walk-map f again (c ∷ cs) xs rest =
     here j x none p true same = old (slice_get xs j) refl (ap (λ b. cond b (option_map f (slice_get xs j)) (slice_get xs j)) (sym same) ∙ sym (nth_alter f xs c.line j) ∙ p)
       where
         old : (o : Option _) → slice_get xs j ≡ o → option_map f o ≡ Some x → f x ≡ x
-        old None is q = let z : ◌≡◌ {A = ℕ} 0 1 = cc in absurd (omega arith)
+        old None is q = absurd (cc)
         old (Some y) is q = let e : f y ≡ x = cc in subst (λ v. f v ≡ v) e (again y)
     here j x none p false other =
         rest j x (ap (λ b. cond b (option_map f (slice_get xs j)) (slice_get xs j)) (sym other) ∙ sym (nth_alter f xs c.line j) ∙ p) (ap (λ b. b || names cs j) other ∙ none)
@@ -74,7 +74,7 @@ named_after m Commit k own = true
 named_after m Abandon k own = m.named k true own
 
 held_some : (holder : Option ℕ) (s : ℕ) → by holder s ≡ true → elsewhere holder s ≡ false
-held_some None s e = let z : ◌≡◌ {A = ℕ} 0 1 = cc in absurd (omega arith)
+held_some None s e = absurd (cc)
 held_some (Some t) s e = ap not e
 
 -- nobody holds what its holder let go
@@ -94,7 +94,7 @@ module _ {L O : Type 0} (m : Method L O) (sound : Clock → Bool → Option Stag
   ended_kept : (hs : List (Option Hand)) (k : Clock) (due : Bool) (j : ℕ) (own : O) (before : L) (holder : Option ℕ) (s : ℕ) (h : Hand) → get_or hs s None ≡ Some h
       → allowed m.quiet k.stage h.began ≡ true → by holder s ≡ true → Sits m sound f hs k due j own holder before
       → Kept m sound k due (m.due k (is_some holder) before own) None before (ending m e k h.began own before) (line_after m e own before) (named_after m e k own)
-  ended_kept hs k due j own before None s h opened may mine sits = let z : ◌≡◌ {A = ℕ} 0 1 = cc in absurd (omega arith)
+  ended_kept hs k due j own before None s h opened may mine sits = absurd (cc)
   ended_kept hs k due j own before (Some t) s h opened may mine sits =
       let own_part = part_some (get_or hs s None) j sits.work (sits.parts s ∙ ap (λ b. cond b (Some sits.work) None) mine) in
       let one : sits.work.began ≡ h.began = own_part.2 h opened in
@@ -175,7 +175,7 @@ module _ {L O : Type 0} (m : Method L O) (sound : Clock → Bool → Option Stag
           rw (length-map t.cells rule)
           (
           all-seats t.seats s within None (λ o. (j : ℕ) → names (changes_of_hand o) j ≡ true → j < length t.cells)
-          (λ j p. let z : ◌≡◌ {A = ℕ} 0 1 = cc in absurd (omega arith)) v.inside r j p
+          (λ j p. absurd (cc)) v.inside r j p
           );
       sits = λ j z p.
           let x = nth_of_map rule t.cells j z p in
@@ -188,7 +188,7 @@ module _ {L O : Type 0} (m : Method L O) (sound : Clock → Bool → Option Stag
     shown_all g g' same = map-map g rule t.cells ∙ map_same (λ x. g (rule x)) g' t.cells (λ j x there. same j x there (by x.holder s) refl)
 
 held_there : (holder : Option ℕ) (s : ℕ) → by holder s ≡ true → is_some holder ≡ true
-held_there None s e = let z : ◌≡◌ {A = ℕ} 0 1 = cc in absurd (omega arith)
+held_there None s e = absurd (cc)
 held_there (Some t) s e = refl
 
 module _ {L O : Type 0} (m : Method L O) (sound : Clock → Bool → Option Stage → L → O → Type 0) (law : Lawful m sound) (f : L → ℕ → ℕ → Outcome L)

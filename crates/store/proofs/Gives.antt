@@ -24,7 +24,7 @@ use Rattle.store.proofs.Judging.{Shows, shown}
 use Rattle.store.proofs.Numbering.{nth_alter, length-alter, map-alter, drop-map-alter}
 
 drop_nth : {X : Type 0} (xs : List X) (d : ℕ) (x : X) → slice_get xs d ≡ Some x → drop d xs ≡ x ∷ drop (suc d) xs
-drop_nth [] d x e = let z : ◌≡◌ {A = ℕ} 0 1 = cc in absurd (omega arith)
+drop_nth [] d x e = absurd (cc)
 drop_nth (y ∷ xs) zero x e = let one : y ≡ x = cc in ap (λ z. z ∷ xs) one
 drop_nth (y ∷ xs) (suc d) x e = drop_nth xs d x e
 

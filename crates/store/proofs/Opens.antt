@@ -42,7 +42,7 @@ module _ {L O : Type 0} (m : Method L O) (sound : Clock → Bool → Option Stag
     began = λ s. ap (λ h. began_in m.quiet Rest (option_map (λ w. w.began) h)) (all_shut 16 s);
     inside = λ s j named.
         let e : names (changes_of_hand None) j ≡ true = ap (λ h. names (changes_of_hand h) j) (sym (all_shut 16 s)) ∙ named in
-        let z : ◌≡◌ {A = ℕ} 0 1 = cc in absurd (omega arith);
+        absurd (cc);
     sits = sits-new;
   }
 

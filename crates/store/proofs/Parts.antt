@@ -14,7 +14,7 @@ only_none [] j e = refl
 only_none (c ∷ cs) j e = here (eqb c.line j) (only_none cs j) e
   where
     here : (b : Bool) → (names cs j ≡ false → only j cs ≡ []) → (b || names cs j) ≡ false → cond b (c ∷ only j cs) (only j cs) ≡ []
-    here true rest e = let z : ◌≡◌ {A = ℕ} 0 1 = cc in absurd (omega arith)
+    here true rest e = absurd (cc)
     here false rest e = rest e
 
 pub only_more : (cs : List Change) (c : Change) (j : ℕ) → only j (cs ++ c ∷ []) ≡ only j cs ++ only j (c ∷ [])
@@ -40,13 +40,13 @@ part_none (Some h) j e = here (names h.changes j) refl e
   where
     here : (b : Bool) → names h.changes j ≡ b → whole_part j h b ≡ None
         → (names h.changes j ≡ false) × (only j h.changes ≡ [])
-    here true is e = let z : ◌≡◌ {A = ℕ} 0 1 = cc in absurd (omega arith)
+    here true is e = absurd (cc)
     here false is e = (is, only_none h.changes j is)
 
 -- some part is: it is the seat's own
 pub part_some : (h : Option Hand) (j : ℕ) (w : Hand) → part j h ≡ Some w
     → (names (changes_of_hand h) j ≡ true) × (only j (changes_of_hand h) ≡ w.changes) × ((g : Hand) → h ≡ Some g → w.began ≡ g.began)
-part_some None j w e = let z : ◌≡◌ {A = ℕ} 0 1 = cc in absurd (omega arith)
+part_some None j w e = absurd (cc)
 part_some (Some h) j w e = here (names h.changes j) refl e
   where
     here : (b : Bool) → names h.changes j ≡ b → whole_part j h b ≡ Some w
@@ -54,7 +54,7 @@ part_some (Some h) j w e = here (names h.changes j) refl e
     here true is e =
         let same : ◌≡◌ {A = Hand} (record { began = h.began; changes = only j h.changes }) w = cc in
         (is, ap (λ v. v.changes) same, λ g p. let own : h ≡ g = cc in sym (ap (λ v. v.began) same) ∙ ap (λ v. v.began) own)
-    here false is e = let z : ◌≡◌ {A = ℕ} 0 1 = cc in absurd (omega arith)
+    here false is e = absurd (cc)
 
 -- a test that no element meets, and one that an element meets
 module _ {X : Type 0} (p : Option X → Bool) where

@@ -8,11 +8,11 @@ use Rattle.store.proofs.Numbering.{get_d_set}
 
 -- a row of refusals that was passed
 pub passed : (b : Bool) (x : KeeperFault) (r : Option KeeperFault) → cond b (Some x) r ≡ None → (b ≡ false) × (r ≡ None)
-passed true x r e = let z : ◌≡◌ {A = ℕ} 0 1 = cc in absurd (omega arith)
+passed true x r e = absurd (cc)
 passed false x r e = (refl, e)
 
 pub open_hand : (h : Option Hand) → not (is_some h) ≡ false → (g : Hand) × (h ≡ Some g)
-open_hand None e = let z : ◌≡◌ {A = ℕ} 0 1 = cc in absurd (omega arith)
+open_hand None e = absurd (cc)
 open_hand (Some g) e = (g, refl)
 
 pub seat_within : (hs : List (Option Hand)) (s : ℕ) → length hs ≡ 16 → leb 16 s ≡ false → s < length hs

@@ -25,7 +25,7 @@ module _ {L : Type 0} (f : L → ℕ → ℕ → Outcome L) where
   -- what comes out well began well
   ran_ok : (r : Result L LineFault) (cs : List Change) (y : L) → ran f r cs ≡ Ok y → (x : L) × (r ≡ Ok x)
   ran_ok (Ok x) cs y e = (x, refl)
-  ran_ok (Err fault) cs y e = let bad = ran_err fault cs in let z : ◌≡◌ {A = ℕ} 0 1 = cc in absurd (omega arith)
+  ran_ok (Err fault) cs y e = let bad = ran_err fault cs in absurd (cc)
 
   -- a change on a line that takes it
   make_there : (ls : List L) (c : Change) (x z : L) → slice_get ls c.line ≡ Some x → change f x c ≡ Ok z → make f ls c ≡ Ok (set ls c.line z)

@@ -25,7 +25,7 @@ pub nth_of_map : {X Y : Type 0} (g : X → Y) (xs : List X) (j : ℕ) (y : Y) �
 nth_of_map g xs j y e = from (slice_get xs j) refl (sym (slice_get-map g xs j) ∙ e)
   where
     from : (o : Option _) → slice_get xs j ≡ o → option_map g o ≡ Some y → (x : _) × (slice_get xs j ≡ Some x) × (g x ≡ y)
-    from None is p = let z : ◌≡◌ {A = ℕ} 0 1 = cc in absurd (omega arith)
+    from None is p = absurd (cc)
     from (Some x) is p = (x, is, cc)
 
 pub eqb_sym : (a b : ℕ) → eqb a b ≡ eqb b a
@@ -39,7 +39,7 @@ cond_self b = grind arith
 
 -- a part's stage of beginning is its seat's
 pub part-began : (quiet : Bool) (g : Stage) (j : ℕ) (h : Option Hand) (w : Hand) → part j h ≡ Some w → began_in quiet g (option_map (λ v. v.began) h) ≡ true → allowed quiet g w.began ≡ true
-part-began quiet g j None w e a = let z : ◌≡◌ {A = ℕ} 0 1 = cc in absurd (omega arith)
+part-began quiet g j None w e a = absurd (cc)
 part-began quiet g j (Some h) w e a = ap (allowed quiet g) ((part_some (Some h) j w e).2 h refl) ∙ a
 
 -- a line is held by another seat than s if its holder is another

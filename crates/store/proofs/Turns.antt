@@ -46,7 +46,7 @@ lowest_none p (x ∷ xs) empty e s = here (p x) refl (λ e. lowest_none p xs emp
 
     here : (b : Bool) → p x ≡ b → (option_map (λ s. WaitsForSeat s) (lowest p xs) ≡ None → (s : ℕ) → p (get_or xs s None) ≡ false)
         → option_map (λ s. WaitsForSeat s) (cond b (Some 0) (option_map (λ i. suc i) (lowest p xs))) ≡ None → (s : ℕ) → p (get_or (x ∷ xs) s None) ≡ false
-    here true is rest e s = let z : ◌≡◌ {A = ℕ} 0 1 = cc in absurd (omega arith)
+    here true is rest e s = absurd (cc)
     here false is rest e zero = is
     here false is rest e (suc s) = rest (rest_none (lowest p xs) e) s
 
@@ -80,7 +80,7 @@ given-onward g d e = grind arith
 -- what counts before a turn other than the point counts after it
 counts-onward : (g : Stage) (d n : ℕ) → same g Called ≡ false → Counts g d n → (g ≡ Taking → d ≡ n) → Counts (onward g) d n
 counts-onward Rest d n e c all = c
-counts-onward Called d n e c all = let z : ◌≡◌ {A = ℕ} 0 1 = cc in absurd (omega arith)
+counts-onward Called d n e c all = absurd (cc)
 counts-onward Pointed d n e c all = omega arith
 counts-onward Taking d n e c all = all refl
 counts-onward Closing d n e c all = c
@@ -88,7 +88,7 @@ counts-onward Closing d n e c all = c
 -- and a line is due just in Pointed
 due-onward : (g : Stage) (d n j : ℕ) → same g Called ≡ false → Counts g d n → (g ≡ Taking → d ≡ n) → j < n → leb d j ≡ same g Pointed
 due-onward Rest d n j e c all h = lt-leb d j (omega arith)
-due-onward Called d n j e c all h = let z : ◌≡◌ {A = ℕ} 0 1 = cc in absurd (omega arith)
+due-onward Called d n j e c all h = absurd (cc)
 due-onward Pointed d n j e c all h = le-leb d j (omega arith)
 due-onward Taking d n j e c all h = let k = all refl in lt-leb d j (omega arith)
 due-onward Closing d n j e c all h = lt-leb d j (omega arith)

@@ -6,7 +6,8 @@ use keepers::clocks::Clock;
 use keepers::rules::Rules;
 use keepers::stages::Stage;
 
-// What the method keeps of the line; the seat that holds the line, if one does; and the line as it was when that seat first changed it.
+// What the method keeps of the line; the seat that holds the line, if one does; and the line as it was when that seat first changed it. The last stays beside the seat
+// and not in one Option with it, since a method's definition reads it of a cell that nobody holds.
 #[derive(Clone, Copy)]
 pub struct Cell<L, O> {
     pub own: O,
@@ -72,6 +73,7 @@ impl<R: Rules> Cell<R::Line, R> {
         if self.holder != Some(seat) {
             return self;
         }
+        // The definition has the same two cases; a closure in their place would hide them from the clause.
         let own = match end {
             End::Commit => self.own.commit(clock, began),
             End::Abandon => self.own.abandon(clock, began, self.before),

@@ -62,7 +62,7 @@ fn is_awaited(stage: Stage, seat: Option<Open>) -> bool
     seat.is_some_and(|open| waits_for(stage, open.began))
 }
 
-// Whether a turn in `stage` waits for a seat that began in `began`.
+// Whether a turn in `stage` waits for a seat that began in `began`. By cases of the stage, as its definition has them.
 fn waits_for(stage: Stage, began: Stage) -> bool
     ensures { result ≡ awaited stage began }
 {

@@ -67,6 +67,7 @@ impl Command {
         }
         let mut command = Command::new();
         for slot in slots {
+            // There are four at most.
             let _ = command.push(change_in(slot));
         }
         Some(command)

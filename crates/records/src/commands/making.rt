@@ -17,7 +17,7 @@ const NO_CHANGE: Change = Change {
 };
 
 impl Command {
-    // The command with no change.
+    // The command with no change. A default's promise could say it too, and would read longer at each call.
     pub fn new() -> Command
         ensures { changes_of result ≡ [] }
     {

@@ -84,7 +84,8 @@ impl<'a, R: Rules> Table<'a, R> {
         self.cells.get(self.given).copied()
     }
 
-    // Gives out the next line that is due; none outside Taking or past the last.
+    // Gives out the next line that is due; none outside Taking or past the last. The cell is written by index: what is written through a slice's `get_mut` is not known
+    // to the check.
     pub fn give_out(&mut self) -> Option<Given<R::Line>>
         ensures state { given_out R.Rules.method (state_of self.old) ≡ (result, state_of self.new) }
         ensures same { Unmoved result self.old self.new }

@@ -1,6 +1,6 @@
 use Rattle.std.proofs.Common.{sym, arith}
 use Rattle.std.proofs.lemmas.List.{take_rest}
-use Rattle.images_tests.specs.WideBytes.{length-payload, written}
+use Rattle.images_tests.specs.WideBytes.{length-payload, written_pairs}
 use Rattle.images_tests.specs.Wide.{payload}
 use Rattle.lines.proofs.Payloads.{put-short}
 use Rattle.images_tests.proofs.wide.WideLineCoded.write_payload.Goals as goal
@@ -13,5 +13,5 @@ returns-then-out-lt26 c =
 
 pub returns : goal.returns
 returns c =
-    let put = written c.args.self.now c.args.out.now c.if-out-lt26.false in
+    let put = written_pairs c.args.self.now c.args.out.now c.if-out-lt26.false in
     record { answer = sym put.0; after = rw (c.write_two-2.ensures.after, take_rest, c.write_two.ensures.after) put.1 }

@@ -1,4 +1,4 @@
-use Rattle.std.proofs.Common.{◌≡◌, ℕ, ◌/◌, ◌%◌, ◌<◌, eqb, true, false, length, Some, ap, ◌∙◌, inl, inr, arith}
+use Rattle.std.proofs.Common.{◌≡◌, ◌/◌, ◌%◌, ◌<◌, eqb, true, false, length, Some, ap, ◌∙◌, inl, inr, arith}
 use Rattle.std.proofs.lemmas.Bool.{eqb-true, eq-eqb}
 use Rattle.records.specs.Commands.{changes_of, command_with}
 use Rattle.records.proofs.ChangeBytes.{command_refused, command-read, command_step}
@@ -14,8 +14,7 @@ returns-then-bytes-gt-LONGEST c = elim c.then-bytes-gt-LONGEST.branch [
       let some : false ≡ eqb rest 0 = w.if-not-is_empty.ensures in
       ap command_with (command_refused c.args.bytes.now (inr (λ e.
       let none : eqb rest 0 ≡ true = eq-eqb rest 0 (c.as_chunks.ensures.back_len ∙ e) in
-      let z : ◌≡◌ {A = ℕ} 0 1 = cc in
-      absurd (omega arith))))
+      absurd (cc))))
 ]
 
 pub loop-slot-preserved : goal.loop-slot-preserved

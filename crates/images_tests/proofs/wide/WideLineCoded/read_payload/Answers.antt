@@ -1,5 +1,4 @@
-use Rattle.std.proofs.Common.{sym, ap, ◌∙◌, arith, rules}
-use Rattle.std.proofs.lemmas.List.{length-drop}
+use Rattle.std.proofs.Common.{sym, ◌∙◌, arith, rules}
 use Rattle.images_tests.specs.WideBytes.{length-payload, payload-decoded, pair_there, decoded_pairs}
 use Rattle.images_tests.specs.Wide.{decoded, keeps, payload}
 use Rattle.lines.proofs.LittleEndian.{bytes_typed}

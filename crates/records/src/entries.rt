@@ -25,7 +25,8 @@ impl Record for CommandRecord {
     }
 
     fn write_body(command: &Command, out: &mut [u8]) -> Option<usize> {
-        write_front(&command.slots()[0..7 * command.len()], out)
+        let slots = command.slots();
+        write_front(&slots.as_flattened()[0..7 * command.len()], out)
     }
 
     fn read_body(bytes: &[u8]) -> Option<Command> {

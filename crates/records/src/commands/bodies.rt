@@ -1,5 +1,5 @@
 // A command as the body of its record: seven bytes for each change.
-ghost use Rattle.std.specs.Prelude.{◌≡◌, ◌≤◌, true, length};
+ghost use Rattle.std.specs.Prelude.{◌≡◌, ◌≤◌, true, length, map};
 ghost use Rattle.records.specs.Changes.{change_bytes, change_fits, change_in, changes_bytes, changes_fit};
 ghost use Rattle.records.specs.Commands.{changes_of, command_in};
 
@@ -46,15 +46,10 @@ impl Command {
     }
 
     // The bytes of all four slots.
-    pub(crate) fn slots(&self) -> [u8; 28]
-        ensures bytes { result ≡ changes_bytes self.now.changes }
-        ensures fits { changes_fit self.now.changes ≡ true }
+    pub(crate) fn slots(&self) -> [[u8; 7]; 4]
+        ensures { result ≡ map change_bytes self.now.changes }
     {
-        let mut body = [0; 28];
-        for (i, change) in self.changes.iter().enumerate() {
-            body[7 * i..7 * i + 7].copy_from_slice(&change_bytes(*change));
-        }
-        body
+        self.changes.map(change_bytes)
     }
 
     // The command whose body is `bytes`, all of them, if there is one.

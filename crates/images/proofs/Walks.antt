@@ -30,10 +30,6 @@ module _ {L : Type 0} (f : Coding L) (bs : List ℕ) (count : ℕ) where
       let more : count - k ≡ suc (count - (k + 1)) = omega arith in
       rw (more, ← e, add-one)
 
-  pub left_none : (m k : ℕ) → None ≡ line_in k → lines_at f bs count m k ≡ []
-  left_none zero k e = refl
-  left_none (suc m) k e = rw (← e)
-
   front_few : (o : Option (ImageLine L)) (vs : List (ImageLine L)) (m : ℕ) → length vs ≤ m → length (in_front o vs) ≤ suc m
   front_few None vs m h = omega arith
   front_few (Some v) vs m h = omega arith

@@ -1,9 +1,7 @@
 -- Changes as bytes: they read back one behind the other, and bytes that read as changes are their bytes.
-use Rattle.std.proofs.Common.{◌≡◌, ℕ, zero, suc, ◌+◌, ◌-◌, ◌*◌, ◌/◌, ◌%◌, ◌^◌, ◌<◌, ◌≤◌, true, ◌&&◌, eqb, ltb, leb, ◌⊎◌, List, [], ◌∷◌, ◌++◌, length, get_or, take, drop, Some, None, sym, refl, ap, ◌∙◌, inl, inr, add-one, arith}
-use borrow.Rule.Slice.PartMut.{put_mid}
+use Rattle.std.proofs.Common.{◌≡◌, ℕ, zero, suc, ◌+◌, ◌*◌, ◌/◌, ◌%◌, ◌^◌, ◌<◌, ◌≤◌, true, ◌&&◌, eqb, ltb, leb, ◌⊎◌, List, [], ◌∷◌, ◌++◌, length, get_or, take, drop, Some, None, sym, refl, ap, ◌∙◌, inl, inr, add-one, arith}
 use Rattle.std.proofs.ByRecursion.{All-drop}
-use Rattle.std.proofs.lemmas.List.{length-append, length-take, length-drop, append_assoc, take_at, take-take, drop-take, drop_at, drop-drop, nil_from_length, take_more, flat_map_more, length-take-le, take-append-drop}
-use Rattle.std.proofs.lemmas.Slice.{take-put_mid}
+use Rattle.std.proofs.lemmas.List.{length-append, length-drop, append_assoc, take_at, take-take, drop-take, drop_at, drop-drop, nil_from_length, take_more, length-take-le, take-append-drop}
 use Rattle.std.proofs.lemmas.Bool.{cases_Bool, and_parts, and_from, eqb-true, eq-eqb, leb-true, le-leb, lt-leb, lt-ltb, ne_eqb, and_right}
 use Rattle.std.proofs.lemmas.Bool.Decides.{nat_tests}
 use Rattle.std.specs.Simd.{first_chunks}
@@ -82,18 +80,6 @@ more (suc i) bs =
 
 pub changes_more : (i : ℕ) (bs : List ℕ) → changes_in (i + 1) bs ≡ changes_in i bs ++ change_in (drop (7 * i) bs) ∷ []
 changes_more i bs = rw add-one (more i bs)
-
-pub command_more : (cs : List Change) (i : ℕ) (d : Change) (body : List ℕ) → i < length cs → 7 * i + 7 ≤ length body → take (7 * i) body ≡ changes_bytes (take i cs)
-    → let next = put_mid (7 * i) (7 * i + 7 - 7 * i) body (change_bytes (get_or cs i d)) in
-    (length next ≡ length body) × (take (7 * (i + 1)) next ≡ changes_bytes (take (i + 1) cs))
-command_more cs i d body inside long so_far =
-    let x = get_or cs i d in
-    let k = 7 * i + 7 - 7 * i in
-    let wide = length-change x in
-    let written = take-put_mid (7 * i) k body (change_bytes x) (7 * (i + 1)) (omega arith) (omega arith) in
-    let step : changes_bytes (take i cs) ++ change_bytes x ≡ changes_bytes (take i cs ++ x ∷ []) = flat_map_more change_bytes [] (take i cs) x in
-    let whole : length (take (7 * i) body ++ (change_bytes x ++ drop k (drop (7 * i) body))) ≡ length body = simp (length-append, length-take, length-drop) (omega arith) in
-    (whole, written ∙ rw (so_far, take_more cs i d inside) step)
 
 command-append : (cs ds : List Change) → changes_bytes (cs ++ ds) ≡ changes_bytes cs ++ changes_bytes ds
 command-append [] ds = refl

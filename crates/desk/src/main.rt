@@ -122,7 +122,7 @@ impl<'a> Reporter<'a> {
         Ok(())
     }
 
-    // A line's number, its two numbers and its payload.
+    // A line's number, its two numbers and its payload, which a kind of line writes into lent memory.
     fn show_line<L: Played>(self, number: usize, line: &L) -> anyhow::Result<()> {
         let mut payload = [0u8; 26];
         let width = line.write_payload(&mut payload).unwrap_or(0);

@@ -1,4 +1,4 @@
-// How a script is read: its lines into steps, or what is wrong in the first line that is none.
+// How a script is read: its lines into steps, or what is wrong in the first line that is none. What a function here allocates with is its first parameter.
 use crate::played::Played;
 use crate::script::{Entry, Group, Method, Step, Task};
 use anyhow::anyhow;

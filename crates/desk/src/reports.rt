@@ -68,7 +68,7 @@ impl<'a> Reporter<'a> {
     }
 }
 
-// Which of two images is none, where that is why they are not joined.
+// Which of two images is none, where that is why they are not joined: a word behind the refusal, for two of four faults.
 fn which_image(fault: JoinFault) -> &'static str {
     match fault {
         JoinFault::Earlier(_) => " earlier",

@@ -11,7 +11,7 @@ use Rattle.lines.proofs.LittleEndian.{length-le, number-le, whole_some}
 use Rattle.records.specs.declared.image_lines.ImageLine.{ImageLine}
 use Rattle.records.specs.Framing.{framed, bytes_of}
 use Rattle.records.specs.Heads.{head_record}
-use Rattle.records.specs.ImageLines.{line_record, line_of}
+use Rattle.records.specs.ImageLines.{line_record}
 use Rattle.records.specs.Numbers.{end_record}
 use Rattle.records.proofs.Framed.{length-framed}
 use Rattle.records.proofs.HeadBytes.{length-head}
@@ -49,13 +49,6 @@ module _ {L : Type 0} (f : Coding L) where
       let read : n ≡ number (take 2 (drop (at + 4) bs)) = sym (whole_some 2 (take 2 (drop 4 (line_slice bs at w))) n (rw is at e)) ∙ ap number (number_slice bs at w) in
       let tests = and_from (ltb k count) (leb (at + (6 + w)) (length bs)) (lt-ltb k count low) (le-leb (at + (6 + w)) (length bs) room) in
       rw (← wide, tests, read, is, payload_slice bs at w)
-
-  -- a part that was found, and what its payload reads as
-  pub line_found : (x : Option Handed) (p : Handed) (o : Option L) → Some p ≡ x → o ≡ f.reading p.payload → line_of (Some p.number) o ≡ line_in_part f x
-  line_found x p o found read = ap (line_of (Some p.number)) read ∙ ap (line_in_part f) found
-
-  pub part_past : (bs : List ℕ) (count k : ℕ) → count ≤ k → None ≡ part_of f bs count k
-  part_past bs count k past = rw (le-ltb k count past)
 
   pub part_cut : (bs : List ℕ) (count k w : ℕ) → w ≡ f.width → length bs < (16 + k * (6 + w)) + (6 + w) → None ≡ part_of f bs count k
   part_cut bs count k w wide short =

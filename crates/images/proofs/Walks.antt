@@ -1,34 +1,17 @@
 -- The lines of an image one by one: the first of those that are left, and that those of a lawful image are its lines.
-use Rattle.std.proofs.Common.{◌≡◌, ℕ, zero, suc, ◌+◌, ◌-◌, ◌<◌, ◌≤◌, ◌&&◌, ltb, leb, List, [], ◌∷◌, length, drop, Some, None, Option, sym, refl, inl, inr, add-one, arith}
+use Rattle.std.proofs.Common.{◌≡◌, ℕ, zero, suc, ◌+◌, ◌-◌, ◌<◌, ◌≤◌, List, [], ◌∷◌, length, drop, Some, None, Option, sym, refl, arith}
 use Rattle.std.proofs.lemmas.List.{drop_all}
-use Rattle.std.proofs.lemmas.Bool.{and_parts, cases_Bool, ltb-true}
 use Rattle.std.specs.List.{slice_get}
 use Rattle.lines.specs.Coding.{Coding, Lawful}
 use Rattle.records.specs.declared.image_lines.ImageLine.{ImageLine}
 use Rattle.images.specs.Images.{Content, LawfulImage, writing}
-use Rattle.images.specs.Parts.{line_offset, part_of, line_in_part}
+use Rattle.images.specs.Parts.{part_of, line_in_part}
 use Rattle.images.specs.Walks.{in_front, lines_at}
 use Rattle.images.proofs.Handing.{hands_line, nth_none}
 
 module _ {L : Type 0} (f : Coding L) (bs : List ℕ) (count : ℕ) where
   abbrev line_in : ℕ → Option (ImageLine L)
   line_in k = line_in_part f (part_of f bs count k)
-
-  -- a line that is there is within the count
-  pub in_count : (k : ℕ) (v : ImageLine L) → Some v ≡ line_in k → k < count
-  in_count k v e =
-      let at = line_offset f k in
-      let room = leb (at + (6 + f.width)) (length bs) in
-      elim (cases_Bool (ltb k count && room)) [
-        | inl t ↦ ltb-true k count (and_parts (ltb k count) room t).0
-        | inr cut ↦ let none : Some v ≡ None = rw cut at e in absurd (cc)
-      ]
-
-  pub left_some : (k : ℕ) (v : ImageLine L) → Some v ≡ line_in k → lines_at f bs count (count - k) k ≡ v ∷ lines_at f bs count (count - (k + 1)) (k + 1)
-  left_some k v e =
-      let low = in_count k v e in
-      let more : count - k ≡ suc (count - (k + 1)) = omega arith in
-      rw (more, ← e, add-one)
 
   front_few : (o : Option (ImageLine L)) (vs : List (ImageLine L)) (m : ℕ) → length vs ≤ m → length (in_front o vs) ≤ suc m
   front_few None vs m h = omega arith

@@ -15,7 +15,7 @@ use std::test::Fail;
 // Room for each image of these tests but the longest.
 const SIZE: usize = 120;
 
-// An image in memory of its own.
+// An image in memory of its own: an array with its length, so that it is copied and cut like any value.
 #[derive(Clone, Copy)]
 struct Stored {
     memory: [u8; SIZE],

@@ -97,6 +97,7 @@ mod tests {
         Account { balance, limit: 0 }
     }
 
+    // Each crate of tests has its own, since none rests on another.
     fn number(answer: Result<(), KeeperFault>) -> Answer {
         answer.map_err(|fault| Refusal::from(fault).number)
     }

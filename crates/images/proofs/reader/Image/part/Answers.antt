@@ -1,12 +1,6 @@
 use Rattle.std.proofs.Common.{arith}
-use Rattle.images.proofs.Handing.{part_cut, part_past, part_found, hands_part}
+use Rattle.images.proofs.Handing.{part_cut, part_found, hands_part}
 use Rattle.images.proofs.reader.Image.part.Goals as goal
-
-pub returns-then-k-from : goal.returns-then-k-from
-returns-then-k-from g c =
-    let s = c.args.self in
-    let found = part_past g.C.Coded.coding s.bytes.now s.count c.args.k (omega arith) in
-    record { answer = found; lawful = hands_part g.C.Coded.coding g.met.C.Coded.lawful s.bytes.now s.count c.args.k _ found }
 
 pub returns-in_err-line : goal.returns-in_err-line
 returns-in_err-line g c =

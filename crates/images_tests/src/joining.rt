@@ -51,26 +51,36 @@ fn write_image<C: Coded>(out: &mut [u8], head: Head, lines: &[ImageLine<C>]) -> 
     put::<EndRecord>(out, at, &u16::try_from(lines.len()).ok()?)
 }
 
-fn made<C: Coded>(mode: Mode, n: u16, from: u32, point: u32, lines: &[ImageLine<C>]) -> Stored {
-    let code = C::type_code();
-    let mut memory = [0u8; SIZE];
-    let head = Head {
-        code,
-        mode,
+fn full_head<C: Coded>(n: u16, point: u32) -> Head {
+    Head {
+        code: C::type_code(),
+        mode: Mode::Full,
         n,
-        from,
+        from: 0,
         point,
-    };
+    }
+}
+
+fn partial_head<C: Coded>(n: u16, from: u32, point: u32) -> Head {
+    Head {
+        mode: Mode::Partial,
+        from,
+        ..full_head::<C>(n, point)
+    }
+}
+
+fn made<C: Coded>(head: Head, lines: &[ImageLine<C>]) -> Stored {
+    let mut memory = [0u8; SIZE];
     let len = write_image(&mut memory, head, lines).unwrap_or(0);
     Stored { memory, len }
 }
 
 fn full<C: Coded>(n: u16, point: u32, lines: &[ImageLine<C>]) -> Stored {
-    made(Mode::Full, n, 0, point, lines)
+    made(full_head::<C>(n, point), lines)
 }
 
 fn partial<C: Coded>(n: u16, from: u32, point: u32, lines: &[ImageLine<C>]) -> Stored {
-    made(Mode::Partial, n, from, point, lines)
+    made(partial_head::<C>(n, from, point), lines)
 }
 
 fn stock(number: u16, on_hand: u32) -> ImageLine<StockLine> {
@@ -269,28 +279,12 @@ fn widest(rt: HostRuntime) {
 // The length of an image of 1,024 lines that are as wide as can be: no image is longer.
 const LONGEST: usize = 32_790;
 
-fn longest_image(
-    heap: Global,
-    mode: Mode,
-    from: u32,
-    point: u32,
-    first: u64,
-) -> Result<Vec<u8>, AllocError> {
-    let code = <WideLine as Coded>::type_code();
-    let n = 1_024;
-    let lines: Vec<ImageLine<WideLine>> = (0..n).map(|number| wide(number, first)).collect(heap)?;
+fn longest_image(heap: Global, head: Head, first: u64) -> Result<Vec<u8>, AllocError> {
+    let lines: Vec<ImageLine<WideLine>> = (0..head.n)
+        .map(|number| wide(number, first))
+        .collect(heap)?;
     let mut bytes = vec![in heap; 0u8; LONGEST]?;
-    let _len = write_image(
-        bytes.as_mut_slice(),
-        Head {
-            code,
-            mode,
-            n,
-            from,
-            point,
-        },
-        lines.as_slice(),
-    );
+    let _len = write_image(bytes.as_mut_slice(), head, lines.as_slice());
     Ok(bytes)
 }
 
@@ -298,9 +292,9 @@ fn longest_image(
 #[test]
 fn longest(rt: HostRuntime) -> Result<(), Fail> {
     let heap = rt.alloc();
-    let earlier = longest_image(heap, Mode::Full, 0, 1, 10)?;
-    let later = longest_image(heap, Mode::Partial, 1, 2, 20)?;
-    let wanted = longest_image(heap, Mode::Full, 0, 2, 20)?;
+    let earlier = longest_image(heap, full_head::<WideLine>(1_024, 1), 10)?;
+    let later = longest_image(heap, partial_head::<WideLine>(1_024, 1, 2), 20)?;
+    let wanted = longest_image(heap, full_head::<WideLine>(1_024, 2), 20)?;
     let mut memory = vec![in heap; 7u8; LONGEST]?;
     let answer = join::<WideLine>(earlier.as_slice(), later.as_slice(), memory.as_mut_slice());
     assert!(rt; answer == Ok(LONGEST));

@@ -90,6 +90,7 @@ module _ {L : Type 0} (f : Coding L) (lawful : Lawful f) (x y m : List ℕ) (typ
             let front : take n after ≡ w = rw (rw fit at holds, got.1) (take_at w (drop n m) n (sym got.0)) in
             let old = (only f lawful x typed_x a rx).0 in
             let new = (only f lawful y typed_y b ry).0 in
-            rw front (back f lawful (join a b) (join-lawful f a b old new fit) w (bytes-writing f lawful (join a b)) refl)
+            let whole = join-lawful f a b old new fit in
+            (whole, front, rw front (back f lawful (join a b) whole w (bytes-writing f lawful (join a b)) refl))
         | inr apart ↦ let none : Err (Apart b.point) ≡ Ok n = rw apart at told in absurd (cc)
       ]

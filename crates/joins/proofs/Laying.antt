@@ -1,7 +1,7 @@
 -- Bytes that are written into memory, each piece behind the one before.
 use Rattle.images.specs.Images.{lines_bytes}
 use Rattle.std.proofs.Common.{◌≡◌, ℕ, ◌+◌, ◌≤◌, List, [], ◌∷◌, ◌++◌, length, take, drop, Some, None, Option, sym, refl, ap, ◌∙◌, arith}
-use Rattle.std.proofs.lemmas.List.{append_assoc, append-nil, drop_at, drop-drop, length-append, length-drop, length-take-le, take-append-drop, take_at}
+use Rattle.std.proofs.lemmas.List.{append_assoc, drop_at, drop-drop, length-append, length-drop, length-take-le, take-append-drop, take_at}
 use Rattle.lines.specs.Bytes.{overwritten, put, room}
 use Rattle.lines.specs.Coding.{Coding}
 use Rattle.records.specs.declared.image_lines.ImageLine.{ImageLine}

@@ -14,7 +14,7 @@
 --   leaves t             the images that it puts together, from the earliest on
 --   value f t            the image that it gives, if every join is accepted
 --   Grouping f           images joined in one order give the same, however they are grouped
---   JoinLaw ..           what a join that is accepted leaves in memory is the image that says what it should
+--   JoinLaw ..           a join that is accepted is lawful content; what it leaves in memory is the writing of it, and reads as it
 use Rattle.std.specs.Prelude.{◌≡◌, ℕ, zero, suc, Bool, true, false, cond, ◌&&◌, List, [], ◌∷◌, ◌++◌, length, take, Some, None, Ok, Err, Option, Result, ◌==◌, nat_le}
 use Rattle.std.specs.List.{AllByRecursion}
 use Rattle.lines.specs.Bytes.{Bytes, put}
@@ -26,7 +26,7 @@ use Rattle.records.specs.ImageLines.{numbered}
 use Rattle.joins.specs.declared.faults.JoinFault.{JoinFault}
 use Rattle.joins.specs.declared.faults.JoinFault.TheVariants.{Earlier, Later, Apart, Short}
 use Rattle.images.specs.declared.faults.Unlawful.{Unlawful}
-use Rattle.images.specs.Images.{Content, writing}
+use Rattle.images.specs.Images.{Content, LawfulImage, writing}
 use Rattle.images.specs.Reading.{reading}
 
 abbrev pub line_of : {L : Type 0} → List (ImageLine L) → ℕ → Option L
@@ -106,4 +106,5 @@ Grouping f = (s t : Tree) → AllByRecursion Bytes (leaves s) → leaves s ≡ l
 
 abbrev pub JoinLaw : {L : Type 0} → Coding L → List ℕ → List ℕ → Result ℕ JoinFault → List ℕ → Type 0
 JoinLaw {L} f x y r after =
-    (a b : Content L) (n : ℕ) → reading f x ≡ Ok a → reading f y ≡ Ok b → r ≡ Ok n → reading f (take n after) ≡ Ok (join a b)
+    (a b : Content L) (n : ℕ) → reading f x ≡ Ok a → reading f y ≡ Ok b → r ≡ Ok n
+    → LawfulImage f (join a b) × (take n after ≡ writing f (join a b)) × (reading f (take n after) ≡ Ok (join a b))

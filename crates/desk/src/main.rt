@@ -71,7 +71,7 @@ impl fmt::Display for Tally {
 fn play_script(rt: &HostRuntime, entries: &[Entry<Step>]) -> anyhow::Result<()> {
     let mut tally = Tally::default();
     for entry in entries {
-        let reporter = Reporter::new(rt, &entry.echo);
+        let reporter = Reporter::new(rt, entry.echo.as_str());
         match &entry.said {
             Step::Accounts(task) => reporter.play(task, &mut tally)?,
             Step::Stock(task) => reporter.play(task, &mut tally)?,
@@ -106,7 +106,7 @@ impl<'a> Reporter<'a> {
             .collect(self.rt.alloc())?;
         self.answer(format_args!("{count} lines"))?;
         for change in &group.changes {
-            let reporter = Reporter::new(self.rt, &change.echo);
+            let reporter = Reporter::new(self.rt, change.echo.as_str());
             tally.changes = tally.changes.saturating_add(1);
             match change_line(lines.as_mut_slice(), change.said) {
                 Ok(()) => reporter.answer("ok")?,

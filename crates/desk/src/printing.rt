@@ -13,11 +13,8 @@ pub(crate) struct Reporter<'a> {
 }
 
 impl<'a> Reporter<'a> {
-    pub(crate) fn new(rt: &'a HostRuntime, echo: &'a String) -> Reporter<'a> {
-        Reporter {
-            rt,
-            echo: echo.as_str(),
-        }
+    pub(crate) fn new(rt: &'a HostRuntime, echo: &'a str) -> Reporter<'a> {
+        Reporter { rt, echo }
     }
 
     pub(crate) fn answer<T: fmt::Display + Drop>(self, answer: T) -> anyhow::Result<()> {

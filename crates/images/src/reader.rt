@@ -19,10 +19,12 @@ use std::marker::PhantomData;
 // No book has more lines.
 const MOST: u16 = 1024;
 
-// The length of a head record, and where in a line record the payload begins.
-const HEAD_LEN: usize = 16;
+// The length of a head record, where in a line record the payload begins, and the length of an end record.
+pub const HEAD_LEN: usize = 16;
 
-const PAYLOAD_AT: usize = 6;
+pub const PAYLOAD_AT: usize = 6;
+
+pub const END_LEN: usize = 6;
 
 // An image that was read, by what its head says and how many lines it has, so that line k is found without another pass.
 #[derive(Clone, Copy)]

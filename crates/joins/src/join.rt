@@ -8,18 +8,11 @@ ghost use Rattle.joins.specs.Merging.{merged_left, overlay, heads_join, joined_h
 
 use crate::faults::JoinFault;
 use crate::merged::Merged;
-use images::reader::Image;
+use images::reader::{END_LEN, HEAD_LEN, Image, PAYLOAD_AT};
 use lines::traits::Coded;
 use records::frames::{Record, write_record};
 use records::heads::{Head, Mode};
 use records::images::{EndRecord, HeadRecord, LineRecord};
-
-// The length of a head record, of a line record but for its payload, and of an end record.
-const HEAD_LEN: usize = 16;
-
-const LINE_FRAME: usize = 6;
-
-const END_LEN: usize = 6;
 
 // Writes the record of a value from `at` on and answers the offset behind it; none where there is no room for it.
 fn put<R: Record>(out: &mut [u8], at: usize, value: &R::Value) -> Option<usize>
@@ -111,7 +104,7 @@ impl<'a> Pair<'a> {
             return Err(JoinFault::Apart(self.later.head.point));
         }
         let count = self.count::<C>();
-        let size = HEAD_LEN + count * (LINE_FRAME + C::width()) + END_LEN;
+        let size = HEAD_LEN + count * (PAYLOAD_AT + C::width()) + END_LEN;
         if out.len() < size {
             return Err(JoinFault::Short(size));
         }

@@ -48,24 +48,31 @@ impl Unread {
 // All of a script, or the first line of it that cannot be read.
 pub(crate) fn read_script(heap: Global, text: &[u8]) -> anyhow::Result<Vec<Entry<Step>>> {
     let mut entries = Vec::new(heap);
+    let mut count = 0;
     for (i, line) in Pieces::new(text, b'\n').enumerate() {
         read_line(heap, line, &mut entries).map_err(|unread| unread.at(i))?;
+        count = i.saturating_add(1);
     }
     if entries.is_empty() {
-        return Err(Unread::Because("no heading").at(Pieces::new(text, b'\n').count()));
+        return Err(Unread::Because("no heading").at(count));
     }
     Ok(entries)
 }
 
-// Reads a line behind the entries so far; one with no word, or whose first begins with `#`, is passed over.
+// Reads a line behind the entries so far. One that is passed over is not cut into words: a long comment takes no memory.
 fn read_line(heap: Global, line: &[u8], entries: &mut Vec<Entry<Step>>) -> Result<(), Unread> {
+    if is_passed_over(line) {
+        return Ok(());
+    }
     let words: Vec<&[u8]> = Pieces::new(line, b' ')
         .filter(|word| !word.is_empty())
         .collect(heap)?;
-    match words.as_slice() {
-        [] | [[b'#', ..], ..] => Ok(()),
-        words => read_words(heap, words, entries),
-    }
+    read_words(heap, words.as_slice(), entries)
+}
+
+// Whether a line has no word, or its first begins with `#`.
+fn is_passed_over(line: &[u8]) -> bool {
+    matches!(line.iter().find(|b| **b != b' '), None | Some(b'#'))
 }
 
 // A step of its own, or one more line of the last step's group.

@@ -82,11 +82,9 @@ impl<L: Line> Rules for Twin<L> {
         self.changed(line)
     }
 
-    fn commit(self, clock: Clock, _began: Stage) -> Twin<L> {
-        Twin {
-            named: self.named.with(clock.odd, true),
-            ..self
-        }
+    fn commit(mut self, clock: Clock, _began: Stage) -> Twin<L> {
+        self.named = self.named.with(clock.odd, true);
+        self
     }
 
     fn abandon(self, _clock: Clock, _began: Stage, before: L) -> Twin<L> {
@@ -100,18 +98,14 @@ impl<L: Line> Rules for Twin<L> {
         }
     }
 
-    fn given(self, clock: Clock) -> Twin<L> {
-        Twin {
-            named: self.named.with(!clock.odd, false),
-            ..self
-        }
+    fn given(mut self, clock: Clock) -> Twin<L> {
+        self.named = self.named.with(!clock.odd, false);
+        self
     }
 
-    fn pointed(self) -> Twin<L> {
-        Twin {
-            mw: !self.mr,
-            ..self
-        }
+    fn pointed(mut self) -> Twin<L> {
+        self.mw = !self.mr;
+        self
     }
 
     fn live(self) -> L {

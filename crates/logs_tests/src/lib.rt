@@ -64,10 +64,10 @@ mod tests {
         assert!(rt; ByteLog::check(&short, 3) == Err(LogFault::Unlawful(0)));
     }
 
-    // Appends marks until one is refused, and answers how many the log holds.
+    // Appends marks until one is refused, and answers how many the log holds; 0 where none was refused.
     fn filled<G: Log>(log: &mut G) -> usize {
-        let _ = (0u32..70_000).try_for_each(|point| log.append(Entry::Mark(point)));
-        log.count()
+        let full = (0u32..70_000).any(|point| log.append(Entry::Mark(point)).is_err());
+        if full { log.count() } else { 0 }
     }
 
     // Memory beyond what a log may use is left alone.

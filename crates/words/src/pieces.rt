@@ -11,7 +11,7 @@ pub fn cut_at(bytes: &[u8], mark: u8) -> (&[u8], &[u8])
 {
     match place(bytes, mark) {
         Some(i) => (&bytes[..i], &bytes[i + 1..]),
-        None => (bytes, &[]),
+        None => bytes.split_at(bytes.len()),
     }
 }
 

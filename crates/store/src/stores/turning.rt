@@ -93,10 +93,12 @@ impl<'a, R: Rules> Table<'a, R> {
         if self.clock.stage != Stage::Taking {
             return None;
         }
+        // Read once: that a cell which is written leaves the count as it is, the compiler does not see.
+        let i = self.given;
         let cell = self.next_cell()?;
         let given = cell.own.gives(self.clock);
-        self.cells[self.given] = cell.given(self.clock);
-        self.given += 1;
+        self.cells[i] = cell.given(self.clock);
+        self.given = i + 1;
         Some(given)
     }
 }
